@@ -9,9 +9,12 @@ use Rattle.config_spec.specs.Words.{Sets, SetsBase, SetsPage, SetsConditions}
 use Rattle.config_spec.specs.Words.SetsBase.{given as some_base}
 use Rattle.config_spec.specs.Words.SetsPage.{none as no_page, given as some_page}
 use Rattle.config_spec.specs.Words.SetsConditions.{given as some_conditions}
-use Rattle.words_spec.specs.PlainWords.{Asked, Asks}
+use Rattle.config_spec.proofs.Options.{no_settings_set}
+use Rattle.config_spec.proofs.WordsJudged.{explained_path}
+use Rattle.words_spec.specs.PlainWords.{Asked, Asks, explaining}
 use Rattle.command_words.specs.declared.fault.WordsFault.{WordsFault}
 use Rattle.command_words.specs.declared.order.Order.{Order}
+use Rattle.command_words.specs.declared.order.Order.TheVariants as order
 use Rattle.command_words.specs.Settings.{IsFilePage}
 use Rattle.command_words.specs.Orders.{IsOrderOf, IsWanted, IsWantedOf}
 use Rattle.command_words.specs.declared.order.Wanted.{Wanted}
@@ -47,6 +50,11 @@ set_is_file (Some text) None set = elim set [ ]
 set_is_file (Some text) (Some found) (some_page other is_page) = is_page.no_root
 
 -- ---- orders
+
+pub path_asked : (text path : List ℕ) → path ≡ text → IsPath text → IsWantedOf (wanted.Order (order.Why path)) (explaining text)
+path_asked text path same is =
+    subst (λ p. IsOrderOf (order.Why p) (explaining text)) (sym same)
+    (record { same = refl; is = explained_path text is; sets = no_settings_set })
 
 pub same_asked : (order : Order) (asked other : Asked) → asked ≡ other → IsOrderOf order other → IsOrderOf order asked
 same_asked order asked other same is = subst (IsOrderOf order) (sym same) is

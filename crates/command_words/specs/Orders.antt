@@ -9,9 +9,9 @@ use Rattle.config_spec.specs.declared.Command.{Command}
 use Rattle.config_spec.specs.declared.Command.TheVariants as command
 use Rattle.config_spec.specs.Words.{Settings, Sets, no_settings, command_of, options_of, Measures, IsSession}
 use Rattle.words_spec.specs.PlainWords.{Asked, Asks, LinkOptions, linking, unlinking, refreshing, checking, listing}
-use Rattle.words_spec.specs.PlainWords.{injecting, editing, measuring}
+use Rattle.words_spec.specs.PlainWords.{injecting, editing, explaining, measuring}
 use Rattle.command_words.specs.declared.order.Order.{Order}
-use Rattle.command_words.specs.declared.order.Order.TheVariants.{Link, Unlink, Refresh, Check, Inject}
+use Rattle.command_words.specs.declared.order.Order.TheVariants.{Link, Unlink, Refresh, Check, Inject, Why}
 use Rattle.command_words.specs.declared.order.Order.TheVariants as order
 use Rattle.command_words.specs.declared.order.Wanted.{Wanted}
 use Rattle.command_words.specs.declared.order.Wanted.TheVariants as wanted
@@ -23,6 +23,7 @@ command_ordered Refresh = command.Refresh
 command_ordered Check = command.Check
 command_ordered order.List = command.List
 command_ordered Inject = command.Inject
+command_ordered (Why path) = command.Why
 
 abbrev pub settings_ordered : Order → Settings
 settings_ordered (Link settings entries) = settings
@@ -31,6 +32,7 @@ settings_ordered Refresh = no_settings
 settings_ordered Check = no_settings
 settings_ordered order.List = no_settings
 settings_ordered Inject = no_settings
+settings_ordered (Why path) = no_settings
 
 -- own: what is asked for with the options of the order
 abbrev pub asked_with : LinkOptions → Order → Asked
@@ -40,6 +42,7 @@ asked_with options Refresh = refreshing
 asked_with options Check = checking
 asked_with options order.List = listing
 asked_with options Inject = injecting
+asked_with options (Why path) = explaining path
 
 -- own: the command and the entries are those that are asked for, and the settings are what the options set
 pub record IsOrderOf (order : Order) (asked : Asked) : Type 0 where

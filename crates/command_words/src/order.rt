@@ -1,13 +1,14 @@
 ghost use Rattle.std.specs.Prelude.{◌≡◌, MatchResult, Some, map, string_bytes};
 ghost use Rattle.words_read.specs.Shown.{options_of, shown};
-ghost use Rattle.words_spec.specs.PlainWords.{linking};
+ghost use Rattle.words_spec.specs.PlainWords.{linking, explaining};
 ghost use Rattle.command_words.specs.Faults.{Explains, RefusesAs, RefusesOrder};
 ghost use Rattle.command_words.specs.Orders.{IsOrderOf, IsWanted, IsWantedOf, command_ordered};
 
 use crate::fault::WordsFault;
-use crate::settings::{Settings, settings_of};
+use crate::settings::{Settings, bad_path, settings_of};
 use config_spec::Command;
 use std::alloc::Global;
+use tree_model::{Path, PathFault};
 use words_parse::{Command as Parsed, LinkValues, WordsFault as ParseFault, parse};
 
 /// A command on the project of a folder. Entries are the last of the words, as they stand there.
@@ -30,6 +31,10 @@ pub enum Order<'a> {
     List,
     /// The page, with the map in it.
     Inject,
+    /// The shortest chain of requests that leads from the page to the file at this path.
+    Why {
+        path: Path,
+    },
 }
 
 impl<'a> Order<'a> {
@@ -44,6 +49,7 @@ impl<'a> Order<'a> {
             Order::Check => Command::Check,
             Order::List => Command::List,
             Order::Inject => Command::Inject,
+            Order::Why { .. } => Command::Why,
         }
     }
 }
@@ -83,6 +89,7 @@ fn order_parsed<'a>(alloc: Global, parsed: Parsed<'a>) -> Result<Wanted<'a>, Wor
         Parsed::Inject => Ok(Wanted::Order(Order::Inject)),
         Parsed::List => Ok(Wanted::Order(Order::List)),
         Parsed::Session => Ok(Wanted::Session),
+        Parsed::Why(text) => why_order(alloc, text),
         Parsed::Measure(number) => Ok(Wanted::Measure { number }),
     }
 }
@@ -99,5 +106,16 @@ fn link_order<'a>(
     match settings_of(alloc, values) {
         Ok(settings) => Ok(Wanted::Order(Order::Link { settings, entries })),
         Err(fault) => Err(fault),
+    }
+}
+
+fn why_order<'a>(alloc: Global, text: &str) -> Result<Wanted<'a>, WordsFault>
+    ensures { MatchResult result (λ wanted. IsWantedOf wanted (explaining text.now))
+        (RefusesAs (RefusesOrder (explaining text.now))) }
+{
+    match Path::parse(alloc, text) {
+        Ok(path) => Ok(Wanted::Order(Order::Why { path })),
+        Err(PathFault::Memory) => Err(WordsFault::Memory),
+        Err(PathFault::BadPath) => Err(bad_path(alloc, text)),
     }
 }
