@@ -2,16 +2,20 @@
 --     command_ordered order, settings_ordered order      its command, and what its options set
 --     IsOrderOf order asked      the order is what is asked for
 --     IsOrder words order        it is what these words ask for
---     IsWantedOf wanted asked    what is wanted is what is asked for: an order, a measure or a session
+--     ExplainsAt path asked      it is asked why the file at this path is loaded
+--     AsksWhyAt words path       so do these words
+--     IsWantedOf wanted asked    what is wanted is what is asked for: an order, why a file is loaded, a measure or a
+--                                session
 --     IsWanted words wanted      it is what these words ask for
 use Rattle.std.specs.Prelude.{◌≡◌, ℕ, List, Some, map, string_bytes}
+use Rattle.tree_spec.specs.Paths.{IsPath}
 use Rattle.config_spec.specs.declared.Command.{Command}
 use Rattle.config_spec.specs.declared.Command.TheVariants as command
-use Rattle.config_spec.specs.Words.{Settings, Sets, no_settings, command_of, options_of, Measures, IsSession}
+use Rattle.config_spec.specs.Words.{Settings, Sets, no_settings, command_of, options_of, AsksWhy, Measures, IsSession}
 use Rattle.words_spec.specs.PlainWords.{Asked, Asks, LinkOptions, linking, unlinking, refreshing, checking, listing}
 use Rattle.words_spec.specs.PlainWords.{injecting, editing, explaining, measuring}
 use Rattle.command_words.specs.declared.order.Order.{Order}
-use Rattle.command_words.specs.declared.order.Order.TheVariants.{Link, Unlink, Refresh, Check, Inject, Why}
+use Rattle.command_words.specs.declared.order.Order.TheVariants.{Link, Unlink, Refresh, Check, Inject}
 use Rattle.command_words.specs.declared.order.Order.TheVariants as order
 use Rattle.command_words.specs.declared.order.Wanted.{Wanted}
 use Rattle.command_words.specs.declared.order.Wanted.TheVariants as wanted
@@ -23,7 +27,6 @@ command_ordered Refresh = command.Refresh
 command_ordered Check = command.Check
 command_ordered order.List = command.List
 command_ordered Inject = command.Inject
-command_ordered (Why path) = command.Why
 
 abbrev pub settings_ordered : Order → Settings
 settings_ordered (Link settings entries) = settings
@@ -32,7 +35,6 @@ settings_ordered Refresh = no_settings
 settings_ordered Check = no_settings
 settings_ordered order.List = no_settings
 settings_ordered Inject = no_settings
-settings_ordered (Why path) = no_settings
 
 -- own: what is asked for with the options of the order
 abbrev pub asked_with : LinkOptions → Order → Asked
@@ -42,7 +44,6 @@ asked_with options Refresh = refreshing
 asked_with options Check = checking
 asked_with options order.List = listing
 asked_with options Inject = injecting
-asked_with options (Why path) = explaining path
 
 -- own: the command and the entries are those that are asked for, and the settings are what the options set
 pub record IsOrderOf (order : Order) (asked : Asked) : Type 0 where
@@ -55,12 +56,23 @@ pub record IsOrder (words : List (List ℕ)) (order : Order) : Type 0 where
   pub asks : Asks words asked
   pub is_order : IsOrderOf order asked
 
+-- own: a file is asked for by its path
+pub record ExplainsAt (path : List ℕ) (asked : Asked) : Type 0 where
+  pub is : asked ≡ explaining path
+  pub is_path : IsPath path
+
+pub record AsksWhyAt (words : List (List ℕ)) (path : List ℕ) : Type 0 where
+  pub asks : AsksWhy words path
+  pub is_path : IsPath path
+
 abbrev pub IsWantedOf : Wanted → Asked → Type 0
 IsWantedOf (wanted.Order order) asked = IsOrderOf order asked
+IsWantedOf (wanted.Why path) asked = ExplainsAt path asked
 IsWantedOf (wanted.Measure number) asked = asked ≡ measuring number
 IsWantedOf wanted.Session asked = asked ≡ editing
 
 abbrev pub IsWanted : List (List ℕ) → Wanted → Type 0
 IsWanted words (wanted.Order order) = IsOrder words order
+IsWanted words (wanted.Why path) = AsksWhyAt words path
 IsWanted words (wanted.Measure number) = Measures words number
 IsWanted words wanted.Session = IsSession words

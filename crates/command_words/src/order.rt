@@ -31,10 +31,6 @@ pub enum Order<'a> {
     List,
     /// The page, with the map in it.
     Inject,
-    /// The shortest chain of requests that leads from the page to the file at this path.
-    Why {
-        path: Path,
-    },
 }
 
 impl<'a> Order<'a> {
@@ -49,7 +45,6 @@ impl<'a> Order<'a> {
             Order::Check => Command::Check,
             Order::List => Command::List,
             Order::Inject => Command::Inject,
-            Order::Why { .. } => Command::Why,
         }
     }
 }
@@ -59,6 +54,8 @@ impl<'a> Order<'a> {
 pub enum Wanted<'a> {
     /// A command on the project of a folder.
     Order(Order<'a>),
+    /// The shortest chain of requests that leads from the page to the file at this path.
+    Why { path: Path },
     /// The map of a stated tree of so many packages.
     Measure { number: u64 },
     /// A session on the project of a folder.
@@ -89,7 +86,7 @@ fn order_parsed<'a>(alloc: Global, parsed: Parsed<'a>) -> Result<Wanted<'a>, Wor
         Parsed::Inject => Ok(Wanted::Order(Order::Inject)),
         Parsed::List => Ok(Wanted::Order(Order::List)),
         Parsed::Session => Ok(Wanted::Session),
-        Parsed::Why(text) => why_order(alloc, text),
+        Parsed::Why(text) => why_wanted(alloc, text),
         Parsed::Measure(number) => Ok(Wanted::Measure { number }),
     }
 }
@@ -109,12 +106,12 @@ fn link_order<'a>(
     }
 }
 
-fn why_order<'a>(alloc: Global, text: &str) -> Result<Wanted<'a>, WordsFault>
+fn why_wanted<'a>(alloc: Global, text: &str) -> Result<Wanted<'a>, WordsFault>
     ensures { MatchResult result (λ wanted. IsWantedOf wanted (explaining text.now))
         (RefusesAs (RefusesOrder (explaining text.now))) }
 {
     match Path::parse(alloc, text) {
-        Ok(path) => Ok(Wanted::Order(Order::Why { path })),
+        Ok(path) => Ok(Wanted::Why { path }),
         Err(PathFault::Memory) => Err(WordsFault::Memory),
         Err(PathFault::BadPath) => Err(bad_path(alloc, text)),
     }

@@ -24,7 +24,6 @@ pub fn config_of(alloc: Global, order: Order<'_>, found: Option<Config>) -> Resu
         Order::Check => there(found),
         Order::List => there(found),
         Order::Inject => there(found),
-        Order::Why { .. } => there(found),
     }
 }
 

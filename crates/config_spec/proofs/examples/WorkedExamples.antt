@@ -30,14 +30,14 @@ use Rattle.config_spec.proofs.TwoConditions.{two_conditions}
 use Rattle.config_spec.specs.Projects.{config_by, HoldsProject, project_path, RefusesConfig, with_few}
 use Rattle.config_spec.specs.Projects.HoldsProject.{absent, folder, too_large}
 use Rattle.project_spec.specs.ProjectFiles.{IsPagePath}
-use Rattle.config_spec.specs.Words.{command_of, IsCommandOf, no_settings, options_of, RefusesWords, Sets}
+use Rattle.config_spec.specs.Words.{command_of, IsCommandOf, no_settings, options_of, Sets}
 use Rattle.config_spec.specs.Words.RefusesWords.{bad_file}
 use Rattle.config_spec.specs.Words.RefusesOptions.{bad_base, bad_conditions, bad_path}
 use Rattle.config_spec.specs.Words.SetsBase.{none as no_base, given as some_base}
 use Rattle.config_spec.specs.Words.SetsConditions.{none as no_names, given as some_names}
 use Rattle.config_spec.specs.Words.SetsPage.{none as no_page}
 use Rattle.config_spec.specs.declared.ConfigFault.{ConfigFault}
-use Rattle.config_spec.specs.declared.ConfigFault.TheVariants.{BadPath, NoBase, Project, TooManyEntries}
+use Rattle.config_spec.specs.declared.ConfigFault.TheVariants.{NoBase, Project, TooManyEntries}
 use Rattle.config_spec.specs.declared.Command.{Command}
 use Rattle.config_spec.specs.declared.Command.TheVariants.{Link, Refresh, Why}
 use Rattle.config_spec.specs.declared.ProjectFault.{ProjectFault}
