@@ -1,28 +1,30 @@
 ghost use Rattle.std.specs.Prelude.{◌≡◌, ◌≤◌, List, ℕ, map, string_bytes, IfSome};
 ghost use Rattle.words_spec.specs.PlainWords.{most_packages};
 ghost use Rattle.config_spec.specs.declared.Command.{Command as Commanded};
-ghost use Rattle.config_spec.specs.declared.Command.TheVariants.{Inject, Check, List as ListModules};
+ghost use Rattle.config_spec.specs.declared.Command.TheVariants.{Inject, Check, Why, List as ListModules};
 ghost use Rattle.config_spec.specs.Words.{IsSession};
 ghost use Rattle.generator_spec.specs.Commands.{IsGenerating};
 ghost use Rattle.generator_spec.specs.Ending.{Ends, EndsAs, TellsRefusal};
 ghost use Rattle.generator_spec.specs.Asked.{AsksInOrder};
 ghost use Rattle.session_spec.specs.SessionRuns.{SessionEnds};
-ghost use Rattle.command_words.specs.Orders.{IsOrder, command_ordered};
+ghost use Rattle.command_words.specs.Orders.{AsksWhyAt, IsOrder, command_ordered};
 ghost use Rattle.generator_core.specs.Preparing.{KeepsProject, shown_file};
 ghost use Rattle.generator_core.specs.Measuring.{RunsMeasure, TellsMeasure};
 ghost use Rattle.generator_core.specs.RunEnds.{IsIdle, RunEnds};
-ghost use Rattle.generator_core.specs.Running.{RunsCommand};
+ghost use Rattle.generator_core.specs.Explaining.{RunsWhy};
+ghost use Rattle.generator_core.specs.Running.{IsTaskOf, RunsCommand};
 ghost use Rattle.generator_core.specs.Spending.{CommandSpends};
 ghost use Rattle.generator_core.specs.Writing.{TellsStop, TellsWords, EndsWriting, WritesFiles};
 
 use crate::checking::checked;
+use crate::explaining::explained;
 use crate::listing::listed;
 use crate::measuring::measured;
 use crate::prepared::{Fresh, Prepared, prepare_map, prepare_page};
 use crate::project::configured;
 use command_words::{Order, Wanted, WordsFault, order_of};
 use generation::{Generated, Stop};
-use generator_spec::{Command, Refusal};
+use generator_spec::Refusal;
 use primitives::Steps;
 use request_trace::Config;
 use run_texts::{
@@ -32,7 +34,7 @@ use run_texts::{
 use session_run::session;
 use std::alloc::Global;
 use std::sync::ledger::Ledger;
-use tree_model::{Folder, Sink, Source};
+use tree_model::{Folder, Path, Sink, Source};
 
 /// Does all that the program does: reads the words and the project, generates from the folder, writes the map and the
 /// project or the page, or checks the map that is there, and says how it ended; or holds a session, whose lines come from
@@ -52,6 +54,7 @@ pub fn run<F: Folder, I: Source, O: Sink, L: Ledger>(
 {
     match order_of(alloc, words) {
         Ok(Wanted::Order(order)) => ordered(alloc, folder, order, out, steps),
+        Ok(Wanted::Why { path }) => explain(alloc, folder, &path, out, steps),
         Ok(Wanted::Measure { number }) => measure(alloc, number, out, steps),
         Ok(Wanted::Session) => hold(alloc, folder, input, out, steps),
         Err(fault) => misworded(alloc, fault, out),
@@ -88,6 +91,49 @@ fn hold<F: Folder, I: Source, O: Sink, L: Ledger>(
     }
 }
 
+// `why`: looks for the project, and tells how the page comes to load the file at this path.
+fn explain<F: Folder, O: Sink, L: Ledger>(
+    alloc: Global,
+    folder: &mut F,
+    path: &Path,
+    out: &mut O,
+    steps: &mut Steps<L>,
+) -> u8
+    ensures end { (words : List (List ℕ)) → AsksWhyAt words path.now
+        → EndsAs words (F.state folder.old) (F.state folder.new) (O.state out.old) (O.state out.new) result }
+    ensures asked { IfSome (F.state folder.old).asked (λ old. (words : List (List ℕ)) → AsksWhyAt words path.now
+        → AsksInOrder words (F.state folder.old) old (F.state folder.new)) }
+    ensures steps { CommandSpends (IsGenerating Why) (O.state out.old) (O.state out.new) result steps.old steps.new }
+{
+    match configured(alloc, folder, Order::Refresh) {
+        Ok(config) => why(alloc, folder, &config, path, out, steps),
+        Err(stop) => close(alloc, stop, out),
+    }
+}
+
+// What an order does with its config.
+#[derive(Clone, Copy)]
+enum Task {
+    // To generate, and to write the map, and the project where it is kept.
+    Map { keeps: bool },
+    Inject,
+    Check,
+    List,
+}
+
+fn task_of(order: &Order<'_>) -> Task
+    ensures { IsTaskOf (command_ordered order.now) result }
+{
+    match order {
+        Order::Link { .. } => Task::Map { keeps: true },
+        Order::Unlink { .. } => Task::Map { keeps: true },
+        Order::Refresh => Task::Map { keeps: false },
+        Order::Inject => Task::Inject,
+        Order::Check => Task::Check,
+        Order::List => Task::List,
+    }
+}
+
 // Looks for the project, and does what is asked for with it.
 fn ordered<F: Folder, O: Sink, L: Ledger>(
     alloc: Global,
@@ -103,9 +149,9 @@ fn ordered<F: Folder, O: Sink, L: Ledger>(
     ensures steps { CommandSpends (IsGenerating (command_ordered order.entry)) (O.state out.old) (O.state out.new)
         result steps.old steps.new }
 {
-    let command = order.command();
+    let task = task_of(&order);
     match configured(alloc, folder, order) {
-        Ok(config) => commanded(alloc, folder, command, &config, out, steps),
+        Ok(config) => commanded(alloc, folder, task, &config, out, steps),
         Err(stop) => close(alloc, stop, out),
     }
 }
@@ -114,21 +160,20 @@ fn ordered<F: Folder, O: Sink, L: Ledger>(
 fn commanded<F: Folder, O: Sink, L: Ledger>(
     alloc: Global,
     folder: &mut F,
-    command: Command,
+    task: Task,
     config: &Config,
     out: &mut O,
     steps: &mut Steps<L>,
 ) -> u8
-    ensures { RunsCommand command config.now (F.state folder.old) (F.state folder.new) (O.state out.old)
+    ensures { (command : Commanded) → IsTaskOf command task
+        → RunsCommand command config.now (F.state folder.old) (F.state folder.new) (O.state out.old)
         (O.state out.new) result steps.old steps.new }
 {
-    match command {
-        Command::Link => write_map(alloc, folder, config, true, out, steps),
-        Command::Unlink => write_map(alloc, folder, config, true, out, steps),
-        Command::Refresh => write_map(alloc, folder, config, false, out, steps),
-        Command::Inject => inject(alloc, folder, config, out, steps),
-        Command::Check => check(alloc, folder, config, out, steps),
-        Command::List => list(alloc, folder, config, out, steps),
+    match task {
+        Task::Map { keeps } => write_map(alloc, folder, config, keeps, out, steps),
+        Task::Inject => inject(alloc, folder, config, out, steps),
+        Task::Check => check(alloc, folder, config, out, steps),
+        Task::List => list(alloc, folder, config, out, steps),
     }
 }
 
@@ -197,6 +242,24 @@ fn list<F: Folder, O: Sink, L: Ledger>(
         (O.state out.new) result steps.old steps.new }
 {
     match listed(alloc, folder, config, steps) {
+        Ok(report) => tell(out, report.text.as_slice(), report.status),
+        Err(stop) => close(alloc, stop, out),
+    }
+}
+
+// `why`: traces, and says by which requests the page comes to load the file, or that it doesn't.
+fn why<F: Folder, O: Sink, L: Ledger>(
+    alloc: Global,
+    folder: &mut F,
+    config: &Config,
+    path: &Path,
+    out: &mut O,
+    steps: &mut Steps<L>,
+) -> u8
+    ensures { RunsWhy path.now config.now (F.state folder.old) (F.state folder.new) (O.state out.old)
+        (O.state out.new) result steps.old steps.new }
+{
+    match explained(alloc, folder, config, path, steps) {
         Ok(report) => tell(out, report.text.as_slice(), report.status),
         Err(stop) => close(alloc, stop, out),
     }

@@ -18,8 +18,8 @@ use Rattle.config_spec.specs.Words.{AsksWhy}
 use Rattle.generator_spec.specs.Explaining.{referrer_of, asked_by, is_at, chain_lines, SaysWhy, SaysWhy as says_why}
 use Rattle.generator_spec.specs.Lines.{from_page_line, not_reached_line}
 
-pub one_file : (words : List (List ℕ)) (path other : List ℕ) → AsksWhy words path → AsksWhy words other → path ≡ other
-one_file words path other asks_one asks_other =
+pub one_path_asked : (words : List (List ℕ)) (path other : List ℕ) → AsksWhy words path → AsksWhy words other → path ≡ other
+one_path_asked words path other asks_one asks_other =
     let same : explaining path ≡ explaining other = one_asked words (explaining path) (explaining other) asks_one asks_other in cc
 
 module _ (sights : Sights) (config : Config) (path : List ℕ) where
@@ -63,7 +63,7 @@ module _ (sights : Sights) (config : Config) (path : List ℕ) where
       ]
 
   -- what the page reaches, as chains know it and as the trace does
-  asker_of : Referrer Module → Asker Module
+  abbrev asker_of : Referrer Module → Asker Module
   asker_of the_page = by_page
   asker_of (a_module m) = by_module m
 

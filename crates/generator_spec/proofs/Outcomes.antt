@@ -43,7 +43,7 @@ use Rattle.generator_spec.proofs.Configs.{SameConfig, one_config, one_config_fau
 use Rattle.generator_spec.proofs.Configs.{words_refused_or_config, words_refused_or_refused, page_is_path, plain_or_not}
 use Rattle.generator_spec.proofs.Configs.{command_is, command_is_plain, refused_is_plain, measured_is_plain}
 use Rattle.generator_spec.proofs.Configs.{Judged, Judged as judgement, judged}
-use Rattle.generator_spec.proofs.Explanations.{Explanation, one_file, one_explanation, some_explanation}
+use Rattle.generator_spec.proofs.Explanations.{Explanation, one_path_asked, one_explanation, some_explanation}
 use Rattle.generator_spec.proofs.Generations.{one_trace, one_layout, one_text, some_generation}
 use Rattle.generator_spec.proofs.MapPaths.{map_is_path, project_is_path, map_in_root, project_in_root}
 use Rattle.generator_spec.proofs.Nameless.{traced_is_named}
@@ -204,7 +204,7 @@ module _ (words : List (List ℕ)) (tree : Tree) (status other : ℕ) (lines oth
       → SameEnd status other lines others files more
   both_explained path path_too config second asks is tells f asks_too is_too tells_too g =
       let configs = (one_config words tree Why Why config second is is_too).one_config in
-      let paths = one_file words path path_too asks asks_too in
+      let paths = one_path_asked words path path_too asks asks_too in
       let same =
       one_explanation (get tree) config path status other lines others tells
       (subst (λ c. SaysWhy (get tree) c path other others) (sym configs)
@@ -584,7 +584,7 @@ module _ (words : List (List ℕ)) (tree : Tree) (is_tree : IsTree tree) where
   by_explanation config is all e =
       let file = why_explains is.asked is.is in
       by_chain config is all e file.path (subst (Asks words) file.is is.asks)
-      (some_explanation (get tree) config all e file.path)
+      (some_explanation (get tree) config file.path all e)
 
   by_trace : (command : Command) (config : Config) → IsConfigOf words tree command config → (opened : Opens tree config command) → (all : Gathered) → traced (get tree) config ≡ Ok all → HasOutcome words tree
   by_trace command config is (opens.nothing _ mapping.link) all e =

@@ -106,6 +106,13 @@ impl Trace {
         self.graph.root(entry)
     }
 
+    /// The slots of the modules to which the entries lead.
+    pub fn roots(&self) -> &[Slot]
+        ensures { result.now ≡ self.now.links.roots }
+    {
+        self.graph.roots()
+    }
+
     /// The needs, each at its first place. The referrer of each parses to itself.
     pub fn needs(&self) -> &Needs
         ensures needs { result.now ≡ self.now.gathered.needs }

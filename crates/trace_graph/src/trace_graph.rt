@@ -81,6 +81,13 @@ impl TraceGraph {
         slot_in(&self.roots, entry)
     }
 
+    /// The slots of the modules to which the entries lead.
+    pub fn roots(&self) -> &[Slot]
+        ensures { result.now ≡ self.now.roots }
+    {
+        self.roots.as_slice()
+    }
+
     /// The number of modules.
     pub fn len(&self) -> usize
         ensures { result ≡ length self.now.slots }

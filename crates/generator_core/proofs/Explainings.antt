@@ -1,0 +1,237 @@
+-- How it comes to be said why a file is loaded, step by step.
+use Rattle.std.proofs.Common.{◌≡◌, ◌≤◌, ℕ, List, [], ◌∷◌, length, Option, Some, None, Result, Ok, Err, IfSome, refl, sym, ap, ◌∙◌, subst, arith}
+use Rattle.std.specs.FinMap.{get}
+use Rattle.std.specs.List.{concat}
+use Rattle.std.specs.Prelude.{All}
+use Rattle.std.proofs.lemmas.List.Elements.{All-nil, All-cons}
+use Rattle.slot_arena.specs.Slots.{Place, value_at}
+use Rattle.slot_arena.specs.declared.slot.Slot.{Slot}
+use Rattle.module_graph.specs.declared.module.Module as vertex
+use Rattle.tree_spec.specs.Paths.{IsPath}
+use Rattle.tree_spec.specs.States.{FolderState, SinkState, OnlyLooks}
+use Rattle.tree_spec.specs.Trees.{Tree}
+use Rattle.tree_spec.proofs.ToldStates.{if_all, if_some, if_two, looks_as}
+use Rattle.trace_graph.specs.Links.{Links, module_in, source_in, IsLinked}
+use Rattle.trace_spec.specs.Checks.{Gathered}
+use Rattle.trace_spec.specs.Modules.{Config}
+use Rattle.trace_spec.specs.Traces.{traced}
+use Rattle.words_spec.proofs.PlainIsRead.{one_asked}
+use Rattle.words_spec.proofs.ReadIsPlain.{read_is_plain}
+use Rattle.words_spec.specs.PlainWords.{Asked, explaining, refreshing}
+use Rattle.config_spec.proofs.Options.{no_settings_set}
+use Rattle.config_spec.proofs.WordsJudged.{explained_path}
+use Rattle.config_spec.specs.declared.Command.{Command}
+use Rattle.config_spec.specs.declared.Command.TheVariants.{Refresh, Why}
+use Rattle.config_spec.specs.declared.ConfigFault.{ConfigFault}
+use Rattle.config_spec.specs.Projects.{config_by, CanRefuseConfig, Configures, IsConfigFor, IsConfigOf, RefusesAsked}
+use Rattle.config_spec.specs.Projects.RefusesAsked.{bad_project, no_project, no_base, too_many_entries, not_linked}
+use Rattle.config_spec.specs.Words.{AsksWhy, IsCommandOf, no_settings, options_of, Sets, Settings}
+use Rattle.command_words.specs.Orders.{AsksWhyAt}
+use Rattle.session_spec.specs.SessionRuns.{refresh_words}
+use Rattle.request_trace.specs.Showing.{Traced, Shows}
+use Rattle.generation.specs.declared.stop.Stop.{Stop}
+use Rattle.generation.specs.declared.stop.Stop.TheVariants.{Refused, ReadFault, Memory}
+use Rattle.generation.specs.Generating.{Tracing}
+use Rattle.generator_spec.specs.Asked.{IsConfigAt}
+use Rattle.generator_spec.specs.Commands.{Opens as opens}
+use Rattle.generator_spec.specs.Ending.{IsAsksLine, IsDone, IsDone as done, Says, Ends, EndsAs, Shaped as shaped, Says as says}
+use Rattle.generator_spec.specs.Ending.{TellsChain, TellsChain as chain}
+use Rattle.generator_spec.specs.Explaining.{request_line, SaysWhy, SaysWhy as says_why}
+use Rattle.generator_spec.specs.Lines.{from_page_line}
+use Rattle.generator_spec.specs.Outcome.{ComesTo as comes, Outcome}
+use Rattle.generator_core.specs.declared.checking.Report.{Report}
+use Rattle.generator_core.specs.Configuring.{FindsConfig, StopsConfig, StopsConfig as stops_config}
+use Rattle.generator_core.specs.Explaining.{step_lines, GraphSays, GraphSays as graph_says, IsReportOf, IsToldWhy}
+use Rattle.generator_core.specs.Explaining.{IsExplained, ExplainsFile}
+use Rattle.generator_core.proofs.Endings.{ends_as}
+use Rattle.generator_core.proofs.LoadedBy.{says_by_graph}
+use Rattle.generator_core.proofs.Preparings.{asks_few}
+
+-- ---- the project as it stands
+
+module _ (words : List (List ℕ)) (path : List ℕ) (is : AsksWhyAt words path) where
+  pub why_command : IsCommandOf words Why
+  why_command = record {
+    asked = explaining path;
+    asks = is.asks;
+    is = explained_path path is.is_path;
+    settings = no_settings;
+    sets = no_settings_set;
+  }
+
+  refreshed : {tree : Tree} {outcome : Result Config ConfigFault} → Configures refresh_words tree Refresh outcome → Configures words tree Why outcome
+  refreshed {tree} {outcome} found =
+      let asked = one_asked refresh_words found.asked refreshing found.asks (read_is_plain refresh_words refreshing refl) in
+      record {
+        asked = explaining path;
+        asks = is.asks;
+        is = explained_path path is.is_path;
+        settings = no_settings;
+        sets = no_settings_set;
+        found = found.found;
+        holds = found.holds;
+        comes = found.comes ∙ (ap (λ a. config_by a found.settings found.found) asked ∙ as_it_stands found.settings found.found);
+      }
+    where
+      as_it_stands : (settings : Settings) (held : _) → config_by refreshing settings held ≡ config_by (explaining path) no_settings held
+      as_it_stands settings (Err fault) = refl
+      as_it_stands settings (Ok held) = refl
+
+  refreshed_for : (config : Config) → IsConfigFor refresh_words Refresh config → IsConfigFor words Why config
+  refreshed_for config found = record {
+    asked = explaining path;
+    asks = is.asks;
+    is = explained_path path is.is_path;
+    settings = no_settings;
+    sets = no_settings_set;
+    kept = refl;
+    is_project = found.is_project;
+    entries = tt;
+    few = found.few;
+  }
+
+  refreshed_refuses : (asked : Asked) (fault : ConfigFault) → asked ≡ refreshing → RefusesAsked asked fault → RefusesAsked (explaining path) fault
+  refreshed_refuses asked fault same (bad_project _ why read) = bad_project (explaining path) why read
+  refreshed_refuses asked fault same (no_project _ other) = no_project (explaining path) (λ options entries e. absurd (cc))
+  refreshed_refuses asked fault same (no_base options entries none) = absurd (cc)
+  refreshed_refuses asked fault same (too_many_entries options entries) = absurd (cc)
+  refreshed_refuses asked fault same (not_linked entries front entry rest parts distinct) = absurd (cc)
+
+  refreshed_can : (fault : ConfigFault) → CanRefuseConfig refresh_words fault → CanRefuseConfig words fault
+  refreshed_can fault can =
+      let asked = one_asked refresh_words can.asked refreshing can.asks (read_is_plain refresh_words refreshing refl) in
+      record {
+        command = Why;
+        asked = explaining path;
+        asks = is.asks;
+        is = explained_path path is.is_path;
+        settings = no_settings;
+        sets = no_settings_set;
+        refuses = refreshed_refuses can.asked fault asked can.refuses;
+      }
+
+  module _ (before after : FolderState) where
+    stopped_too : (stop : Stop) → StopsConfig refresh_words before after stop → StopsConfig words before after stop
+    stopped_too stop (stops_config.refused fault same refuses can looks) =
+        stops_config.refused fault same
+        (if_some before.holds (λ tree because. record { command = Why; configures = refreshed (same_refresh tree fault because.command because.configures) }) refuses)
+        (refreshed_can fault can) looks
+      where
+        -- the words ask for no other command
+        same_refresh : (tree : Tree) (fault : ConfigFault) (command : Command) → Configures refresh_words tree command (Err fault) → Configures refresh_words tree Refresh (Err fault)
+        same_refresh tree fault command found =
+            let asked = one_asked refresh_words found.asked refreshing found.asks (read_is_plain refresh_words refreshing refl) in
+            record {
+              asked = refreshing;
+              asks = read_is_plain refresh_words refreshing refl;
+              is = refl;
+              settings = found.settings;
+              sets = subst (λ a. Sets (options_of a) found.settings) asked found.sets;
+              found = found.found;
+              holds = found.holds;
+              comes = found.comes ∙ ap (λ a. config_by a found.settings found.found) asked;
+            }
+    stopped_too stop (stops_config.read_fault same looks) = stops_config.read_fault same looks
+    stopped_too stop (stops_config.memory same looks) = stops_config.memory same looks
+
+    found_too : (config : Config) → IsConfigAt refresh_words Refresh config before → IsConfigAt words Why config before
+    found_too config found = record {
+      told = if_some before.holds (λ tree of. refreshed of) found.told;
+      can = refreshed_for config found.can;
+    }
+
+    pub explains_project : (config : Config) → FindsConfig refresh_words Refresh before (Ok config) after → FindsConfig words Why before (Ok config) after
+    explains_project config at = record {
+      found = record { is = found_too config at.found.is; looks = at.found.looks };
+      asked = at.asked;
+      stopped = tt;
+    }
+
+    pub explains_no_project : (stop : Stop) → FindsConfig refresh_words Refresh before (Err stop) after → FindsConfig words Why before (Err stop) after
+    explains_no_project stop at = record { found = tt; asked = at.asked; stopped = stopped_too stop at.stopped }
+
+-- ---- the trace
+
+module _ (path : List ℕ) (config : Config) (before after : FolderState) where
+  pub trace_stops_why : (stop : Stop) → Tracing config before (Err stop) after → ExplainsFile path config before (Err stop) after
+  trace_stops_why (Refused why) is = record {
+    explained = tt;
+    asked = asks_few config before.holds [] before.asked after is.asked is.footprint;
+    stopped = record {
+      refused = if_two before.holds (λ tree opened refuses_each. refuses_each Why opened) (if_all before.holds (λ tree. opens.no_other_file)) is.refused;
+      kind = is.kind Why;
+      looks = looks_as before after (λ e. absurd (cc)) (λ e. absurd (cc)) is.looks;
+    };
+  }
+  trace_stops_why ReadFault is = record { explained = tt; asked = asks_few config before.holds [] before.asked after is.asked is.footprint; stopped = record { refused = tt; kind = tt; looks = looks_as before after (λ e. refl) (λ e. refl) is.looks } }
+  trace_stops_why Memory is = record { explained = tt; asked = asks_few config before.holds [] before.asked after is.asked is.footprint; stopped = record { refused = tt; kind = tt; looks = looks_as before after (λ e. absurd (cc)) (λ e. absurd (cc)) is.looks } }
+
+  module _ (trace : Traced) (is : Tracing config before (Ok trace.gathered) after) where
+    quiet_looks : OnlyLooks before after ⊥
+    quiet_looks = looks_as before after (λ e. absurd e) (λ e. absurd (cc)) is.looks
+
+    pub no_report : ExplainsFile path config before (Err Memory) after
+    no_report = record { explained = tt; asked = asks_few config before.holds [] before.asked after is.asked is.footprint; stopped = record { refused = tt; kind = tt; looks = looks_as before after (λ e. absurd (cc)) (λ e. absurd e) quiet_looks } }
+
+    -- whatever the graph is, its lines have the shape of a chain's
+    are_asks : (graph : List (Place vertex.Module)) (specifiers : List (List ℕ)) (steps : List (ℕ × Slot)) → All IsAsksLine (step_lines graph specifiers steps)
+    are_asks graph specifiers [] = All-nil IsAsksLine
+    are_asks graph specifiers (step ∷ more) =
+        All-cons IsAsksLine (request_line specifiers step.0 (module_in (value_at graph step.1))) (step_lines graph (source_in (value_at graph step.1)).specifiers more)
+        (record { specifier = _; name = _; says = refl }) (are_asks graph (source_in (value_at graph step.1)).specifiers more)
+
+    shape : (links : Links) (status : ℕ) (lines : List (List ℕ)) → GraphSays links config path status lines → TellsChain config.page path status lines
+    shape links status lines (graph_says.own_page same s l) = chain.reached [] (All-nil IsAsksLine) s l
+    shape links status lines (graph_says.reached steps other answer s l) = chain.reached (step_lines links.graph config.entries steps) (are_asks links.graph config.entries steps) s l
+    shape links status lines (graph_says.not_reached other none s l) = chain.not_reached s l
+
+    pub explains :
+        Shows trace → IsLinked trace.links → length trace.links.roots ≡ length config.entries → (report : Report)
+        → IsReportOf trace.links config path report → ExplainsFile path config before (Ok report) after
+    explains shows linked roots report of = record {
+      explained = record {
+        lines = of.lines;
+        text = of.text;
+        tells = shape trace.links report.status of.lines of.says;
+        told = if_some before.holds (λ tree traces. record {
+          all = trace.gathered;
+          is_traced = traces;
+          says = says_by_graph (get tree) config path trace traces shows linked roots report.status of.lines of.says;
+        }) is.traces;
+        looks = quiet_looks;
+      };
+      asked = asks_few config before.holds [] before.asked after is.asked is.footprint;
+      stopped = tt;
+    }
+
+-- ---- the end
+
+module _ (words : List (List ℕ)) (path : List ℕ) (config : Config) (before after : FolderState) (out out_after : SinkState) (result : ℕ) (report : Report) (asks : AsksWhy words path) (is_config : IsConfigAt words Why config before) (is : IsExplained path config before after report) where
+  outcome_told : (held told : Option Tree) → told ≡ held → IfSome held (λ tree. IsConfigOf words tree Why config) → IfSome held (λ tree. IsToldWhy config tree path report.status is.lines)
+      → IfSome held (λ tree. (later : Tree) × Outcome words tree report.status is.lines later × (told ≡ Some later))
+  outcome_told None told same of traces = tt
+  outcome_told (Some tree) told same of why =
+      (tree, record { files = []; comes = comes.explained path config why.all asks of why.is_traced why.says refl; placed = refl }, same)
+
+  why_says : Says words before after report.status is.lines
+  why_says =
+      says.outcome
+      (shaped.explained (record { path = path; asks = asks; config = config; is_config = is_config.can; tells = is.tells }))
+      (outcome_told before.holds after.holds is.looks.tree is_config.told is.told) (is.looks.quiet (λ e. e)) is.looks.writes
+
+  -- with the status of success there is a chain
+  loaded : (tree : Tree) (told : Option Tree) → told ≡ Some tree → IsConfigOf words tree Why config → (why : IsToldWhy config tree path report.status is.lines) → report.status ≡ 0 → IsDone words tree told
+  loaded tree told same of why zero = by why.says
+    where
+      by : SaysWhy (get tree) config path report.status is.lines → IsDone words tree told
+      by (says_why.reached numbers shortest s l) = done.explained (record { path = path; asks = asks; config = config; is_config = of; all = why.all; is_traced = why.is_traced; numbers = numbers; shortest = shortest }) same
+      by (says_why.not_reached none s l) = absurd (omega (arith, s, zero))
+
+  loaded_told : (held told : Option Tree) → told ≡ held → IfSome held (λ tree. IsConfigOf words tree Why config) → IfSome held (λ tree. IsToldWhy config tree path report.status is.lines) → report.status ≡ 0 → IfSome held (λ tree. IsDone words tree told)
+  loaded_told None told same of why zero = tt
+  loaded_told (Some tree) told same of why zero = loaded tree told same of why zero
+
+  pub why_ends : Ends report.status report.text.items out out_after result → out.faults ≤ out_after.faults → EndsAs words before after out out_after result
+  why_ends told more =
+      ends_as words before after out out_after result report.status is.lines (λ none. is.looks.tree ∙ none) (loaded_told before.holds after.holds is.looks.tree is_config.told is.told) why_says
+      (subst (λ text. Ends report.status text out out_after result) is.text told) is.looks.later (let w = is.looks.writes in omega (arith, w)) more
