@@ -1,17 +1,25 @@
 -- How it comes to be said why a file is loaded, step by step.
-use Rattle.std.proofs.Common.{◌≡◌, ◌≤◌, ℕ, List, [], ◌∷◌, length, Option, Some, None, Result, Ok, Err, IfSome, refl, sym, ap, ◌∙◌, subst, arith}
+use Rattle.std.proofs.Common.{◌≡◌, ◌≢◌, ◌≤◌, ◌+◌, ◌++◌, ℕ, Bor, List, [], ◌∷◌, length, drop, Option, Some, None, Result, Ok, Err, IfSome, refl, sym, ap, ◌∙◌, subst, inl, inr, append_assoc, arith}
+use Rattle.std.proofs.lemmas.List.{append-nil, drop_all}
 use Rattle.std.specs.FinMap.{get}
 use Rattle.std.specs.List.{concat}
-use Rattle.std.specs.Prelude.{All}
+use Rattle.std.specs.Prelude.{All, option_copied, option_map, slice_get, unwrap_or}
+use Rattle.std.proofs.lemmas.Option.{slice_get-map, slice_get_cases}
+use Rattle.std.proofs.lemmas.List.Elements.{All-contains}
+use Rattle.layout_spec.proofs.Contained.{contains_at}
+use Rattle.module_spec.specs.declared.request.Request.{Request}
+use Rattle.module_graph.specs.Modules.{asked_at, asked_by}
+use Rattle.primitives.proofs.ListSteps.{drop_at}
 use Rattle.std.proofs.lemmas.List.Elements.{All-nil, All-cons}
 use Rattle.slot_arena.specs.Slots.{Place, value_at}
 use Rattle.slot_arena.specs.declared.slot.Slot.{Slot}
 use Rattle.module_graph.specs.declared.module.Module as vertex
+use Rattle.module_graph.specs.Graphs.{AreModules}
 use Rattle.tree_spec.specs.Paths.{IsPath}
 use Rattle.tree_spec.specs.States.{FolderState, SinkState, OnlyLooks}
 use Rattle.tree_spec.specs.Trees.{Tree}
 use Rattle.tree_spec.proofs.ToldStates.{if_all, if_some, if_two, looks_as}
-use Rattle.trace_graph.specs.Links.{Links, module_in, source_in, IsLinked}
+use Rattle.trace_graph.specs.Links.{Links, module_in, source_in, source_of, IsLinked, IsLive}
 use Rattle.trace_spec.specs.Checks.{Gathered}
 use Rattle.trace_spec.specs.Modules.{Config}
 use Rattle.trace_spec.specs.Traces.{traced}
@@ -37,11 +45,15 @@ use Rattle.generator_spec.specs.Commands.{Opens as opens}
 use Rattle.generator_spec.specs.Ending.{IsAsksLine, IsDone, IsDone as done, Says, Ends, EndsAs, Shaped as shaped, Says as says}
 use Rattle.generator_spec.specs.Ending.{TellsChain, TellsChain as chain}
 use Rattle.generator_spec.specs.Explaining.{request_line, SaysWhy, SaysWhy as says_why}
-use Rattle.generator_spec.specs.Lines.{from_page_line}
+use Rattle.generator_spec.specs.Lines.{asks_line, from_page_line, not_reached_line}
+use Rattle.generator_spec.proofs.Endings.{one_line_text}
+use Rattle.chain_spec.specs.Chains.{IsChain}
+use Rattle.chain_why.specs.Answers.{IsAnswer}
+use Rattle.chain_why.specs.Shown.{targets_in, is_at}
 use Rattle.generator_spec.specs.Outcome.{ComesTo as comes, Outcome}
 use Rattle.generator_core.specs.declared.checking.Report.{Report}
 use Rattle.generator_core.specs.Configuring.{FindsConfig, StopsConfig, StopsConfig as stops_config}
-use Rattle.generator_core.specs.Explaining.{step_lines, GraphSays, GraphSays as graph_says, IsReportOf, IsToldWhy}
+use Rattle.generator_core.specs.Explaining.{AreLive, specifiers_of, step_lines, GraphSays, GraphSays as graph_says, IsReportOf, IsToldWhy}
 use Rattle.generator_core.specs.Explaining.{IsExplained, ExplainsFile}
 use Rattle.generator_core.proofs.Endings.{ends_as}
 use Rattle.generator_core.proofs.LoadedBy.{says_by_graph}
@@ -186,9 +198,10 @@ module _ (path : List ℕ) (config : Config) (before after : FolderState) where
     shape links status lines (graph_says.not_reached other none s l) = chain.not_reached s l
 
     pub explains :
-        Shows trace → IsLinked trace.links → length trace.links.roots ≡ length config.entries → (report : Report)
+        Shows trace → IsLinked trace.links → AreModules trace.links.graph
+        → length trace.links.roots ≡ length config.entries → (report : Report)
         → IsReportOf trace.links config path report → ExplainsFile path config before (Ok report) after
-    explains shows linked roots report of = record {
+    explains shows linked modules roots report of = record {
       explained = record {
         lines = of.lines;
         text = of.text;
@@ -196,7 +209,7 @@ module _ (path : List ℕ) (config : Config) (before after : FolderState) where
         told = if_some before.holds (λ tree traces. record {
           all = trace.gathered;
           is_traced = traces;
-          says = says_by_graph (get tree) config path trace traces shows linked roots report.status of.lines of.says;
+          says = says_by_graph (get tree) config trace traces shows linked modules roots path report.status of.lines of.says;
         }) is.traces;
         looks = quiet_looks;
       };
@@ -235,3 +248,117 @@ module _ (words : List (List ℕ)) (path : List ℕ) (config : Config) (before a
   why_ends told more =
       ends_as words before after out out_after result report.status is.lines (λ none. is.looks.tree ∙ none) (loaded_told before.holds after.holds is.looks.tree is_config.told is.told) why_says
       (subst (λ text. Ends report.status text out out_after result) is.text told) is.looks.later (let w = is.looks.writes in omega (arith, w)) more
+
+-- ---- what is said of the path
+
+module _ (links : Links) (config : Config) (path : List ℕ) (report : Report) where
+  pub own_reported : path ≡ config.page → report.status ≡ 0 → report.text.items ≡ from_page_line config.page → IsReportOf links config path report
+  own_reported same status text = record { lines = from_page_line config.page ∷ []; says = graph_says.own_page same status refl; text = text ∙ sym (one_line_text (from_page_line config.page)) }
+
+  pub lost_reported : path ≢ config.page → ((numbers : List ℕ) → IsChain (targets_in links.graph links.roots) (is_at links.graph path) numbers → ⊥) → report.status ≡ 10 → report.text.items ≡ not_reached_line path → IsReportOf links config path report
+  lost_reported other none status text = record { lines = not_reached_line path ∷ []; says = graph_says.not_reached other none status refl; text = text ∙ sym (one_line_text (not_reached_line path)) }
+
+  pub chain_reported : path ≢ config.page → (steps : List (ℕ × Slot)) → IsAnswer links.graph links.roots path steps → report.status ≡ 0 → report.text.items ≡ from_page_line config.page ++ concat (step_lines links.graph config.entries steps) → IsReportOf links config path report
+  chain_reported other steps answer status text = record {
+    lines = from_page_line config.page ∷ step_lines links.graph config.entries steps;
+    says = graph_says.reached steps other answer status refl;
+    text = text;
+  }
+
+-- ---- the lines of a chain
+
+-- the lines that are left, from who asks next on, stand behind those that are there
+abbrev pub lines_left : List (Place vertex.Module) → List (List ℕ) → Option Slot → List (ℕ × Slot) → ℕ → List ℕ
+lines_left graph entries from steps index = concat (step_lines graph (specifiers_of graph entries from) (drop index steps))
+
+pub next_step :
+    (graph : List (Place vertex.Module)) (entries : List (List ℕ)) (steps : List (ℕ × Slot)) (index number : ℕ) (slot : Slot) (from : Option Slot) (whole old new : List ℕ)
+    → slice_get steps index ≡ Some (number, slot) → whole ≡ old ++ lines_left graph entries from steps index
+    → new ≡ old ++ request_line (specifiers_of graph entries from) number (module_in (value_at graph slot))
+    → whole ≡ new ++ lines_left graph entries (Some slot) steps (index + 1)
+next_step graph entries steps index number slot from whole old new at left pushed =
+    let rest = drop_at steps index (number, slot) at in
+    let asked = specifiers_of graph entries from in
+    let line : List ℕ = request_line asked number (module_in (value_at graph slot)) in
+    left
+    ∙ (ap (λ some. old ++ concat (step_lines graph asked some)) rest
+    ∙ (sym (append_assoc old line (lines_left graph entries (Some slot) steps (index + 1)))
+    ∙ ap (λ text. text ++ lines_left graph entries (Some slot) steps (index + 1)) (sym pushed)))
+
+pub no_step :
+    (graph : List (Place vertex.Module)) (entries : List (List ℕ)) (steps : List (ℕ × Slot)) (index : ℕ) (from : Option Slot) (whole text : List ℕ)
+    → length steps ≤ index → whole ≡ text ++ lines_left graph entries from steps index → text ≡ whole
+no_step graph entries steps index from whole text over left =
+    sym (append-nil text)
+    ∙ (sym (ap (λ some. text ++ concat (step_lines graph (specifiers_of graph entries from) some)) (drop_all index steps over)) ∙ sym left)
+
+-- ---- a step of a chain, as the code finds it
+
+-- a step that is lent
+abbrev pub lent : Bor ℕ × Bor Slot → ℕ × Slot
+lent step = (step.0.now, step.1.now)
+
+pub step_found :
+    (found : Option (Bor ℕ × Bor Slot)) (steps : List (ℕ × Slot)) (index : ℕ) (number : Bor ℕ) (slot : Bor Slot)
+    → found ≡ Some (number, slot) → option_map lent found ≡ slice_get steps index
+    → slice_get steps index ≡ Some (number.now, slot.now)
+step_found found steps index number slot is lends = sym lends ∙ ap (option_map lent) is
+
+pub past_steps :
+    (found : Option (Bor ℕ × Bor Slot)) (steps : List (ℕ × Slot)) (index : ℕ)
+    → ((number : Bor ℕ) (slot : Bor Slot) → found ≡ Some (number, slot) → ⊥) → option_map lent found ≡ slice_get steps index
+    → length steps ≤ index
+past_steps (Some step) steps index none lends = absurd (none step.0 step.1 refl)
+past_steps None steps index none lends =
+    elim ((slice_get_cases steps index).1) [
+      | inl there ↦ (let wrong : None ≡ Some there.0 = lends ∙ there.2.0 in absurd (cc))
+      | inr past ↦ past.0
+    ]
+
+pub step_alive :
+    (graph : List (Place vertex.Module)) (steps : List (ℕ × Slot)) (index number : ℕ) (slot : Slot)
+    → slice_get steps index ≡ Some (number, slot) → AreLive graph steps → IsLive graph slot
+step_alive graph steps index number slot at alive =
+    All-contains (λ (step : ℕ × Slot). IsLive graph step.1) steps (number, slot) alive (contains_at steps index (number, slot) at)
+
+-- ---- how a request is spelled
+
+pub entry_found :
+    (found : Option (Bor (List ℕ))) (texts : List (List ℕ)) (number : ℕ) (text : Bor (List ℕ)) → found ≡ Some text
+    → option_copied found ≡ slice_get texts number → text.now ≡ unwrap_or (slice_get texts number) []
+entry_found found texts number text is lends = ap (λ some. unwrap_or some []) (sym (ap option_copied is) ∙ lends)
+
+pub no_entry :
+    (found : Option (Bor (List ℕ))) (texts : List (List ℕ)) (number : ℕ) → found ≡ None
+    → option_copied found ≡ slice_get texts number → [] ≡ unwrap_or (slice_get texts number) []
+no_entry found texts number none lends = ap (λ some. unwrap_or some []) (sym (ap option_copied none) ∙ lends)
+
+-- the specifiers of a module are those of its requests
+pub asked_is :
+    (v : vertex.Module) (number : ℕ) → asked_at v number ≡ slice_get (source_of v).specifiers number
+asked_is v number = by (slice_get v.requests.value number) ∙ sym (slice_get-map (λ (request : Request). request.text) v.requests.value number)
+  where
+    by : (found : Option Request) → asked_by found ≡ option_map (λ (request : Request). request.text) found
+    by None = refl
+    by (Some request) = refl
+
+module _ (graph : List (Place vertex.Module)) (slot : Slot) (v : vertex.Module) (number : ℕ) (found : Option (Bor (List ℕ))) (here : value_at graph slot ≡ Some v) where
+  asked_here : slice_get (source_of v).specifiers number ≡ slice_get (source_in (value_at graph slot)).specifiers number
+  asked_here = ap (λ some. slice_get (source_in some).specifiers number) (sym here)
+
+  pub asked_found : (text : Bor (List ℕ)) → found ≡ Some text → option_copied found ≡ asked_at v number → text.now ≡ unwrap_or (slice_get (source_in (value_at graph slot)).specifiers number) []
+  asked_found text is lends = entry_found found (source_in (value_at graph slot)).specifiers number text is (lends ∙ (asked_is v number ∙ asked_here))
+
+  pub none_asked : found ≡ None → option_copied found ≡ asked_at v number → [] ≡ unwrap_or (slice_get (source_in (value_at graph slot)).specifiers number) []
+  none_asked none lends = no_entry found (source_in (value_at graph slot)).specifiers number none (lends ∙ (asked_is v number ∙ asked_here))
+
+-- the line of a module is that of its slot
+pub step_pushed :
+    (graph : List (Place vertex.Module)) (entries : List (List ℕ)) (from : Option Slot) (number : ℕ) (slot : Slot) (v : vertex.Module) (old new specifier path suffix : List ℕ)
+    → value_at graph slot ≡ Some v → specifier ≡ unwrap_or (slice_get (specifiers_of graph entries from) number) [] → path ≡ v.path → suffix ≡ v.suffix
+    → new ≡ old ++ asks_line specifier (path ++ suffix)
+    → new ≡ old ++ request_line (specifiers_of graph entries from) number (module_in (value_at graph slot))
+step_pushed graph entries from number slot v old new specifier path suffix here spelled path_is suffix_is line =
+    line
+    ∙ ((λ i. old ++ asks_line (spelled i) (path_is i ++ suffix_is i))
+    ∙ ap (λ found. old ++ request_line (specifiers_of graph entries from) number (module_in found)) (sym here))

@@ -4,6 +4,7 @@
 --     AreLive graph steps                  each step leads to a slot that has a module
 --     GraphSays links config path status lines     what is said of a path, by the graph of a trace
 --     IsReportOf links config path report          the report says so
+--     IsReportBy trace config path report          the report says so of a trace
 --     IsExplained path config before after report  the report says what is said of a told tree's trace
 --     ExplainsFile path config before result after    there is the report, or it is told why not
 --     RunsWhy path config before after out out_after result steps later    the run ends as words end that ask why the
@@ -19,7 +20,9 @@ use Rattle.tree_spec.specs.Trees.{Tree}
 use Rattle.chain_spec.specs.Chains.{IsChain}
 use Rattle.chain_why.specs.Answers.{IsAnswer}
 use Rattle.chain_why.specs.Shown.{targets_in, is_at}
-use Rattle.trace_graph.specs.Links.{Links, IsLive, module_in, source_in}
+use Rattle.module_graph.specs.Graphs.{AreModules}
+use Rattle.trace_graph.specs.Links.{Links, IsLinked, IsLive, module_in, source_in}
+use Rattle.request_trace.specs.Showing.{Traced, Shows}
 use Rattle.trace_spec.specs.Checks.{Gathered}
 use Rattle.trace_spec.specs.Modules.{Config}
 use Rattle.trace_spec.specs.Traces.{traced}
@@ -71,6 +74,13 @@ pub record IsReportOf (links : Links) (config : Config) (path : List ℕ) (repor
   pub lines : List (List ℕ)
   pub says : GraphSays links config path report.status lines
   pub text : report.text.items ≡ concat lines
+
+-- what the trace keeps of its graph goes with it
+pub record IsReportBy (trace : Traced) (config : Config) (path : List ℕ) (report : Report) : Type 0 where
+  pub shows : Shows trace
+  pub linked : IsLinked trace.links
+  pub modules : AreModules trace.links.graph
+  pub report : IsReportOf trace.links config path report
 
 -- ---- by the tree
 

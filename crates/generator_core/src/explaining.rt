@@ -8,7 +8,7 @@ ghost use Rattle.tree_spec.specs.Limits.{limit_number};
 ghost use Rattle.trace_graph.specs.Links.{IsLive, module_in};
 ghost use Rattle.generator_spec.specs.Explaining.{request_line};
 ghost use Rattle.generator_spec.specs.Lines as spec;
-ghost use Rattle.generator_core.specs.Explaining.{ExplainsFile, IsReportOf, specifiers_of, step_lines, AreLive};
+ghost use Rattle.generator_core.specs.Explaining.{AreLive, ExplainsFile, IsReportBy, specifiers_of, step_lines};
 
 use crate::checking::Report;
 use chain_why::{Chain, chain};
@@ -42,13 +42,14 @@ pub fn explained<F: Folder, L: Ledger>(
 
 // What is said of the path. The page's own is told before any request.
 fn reported(alloc: Global, trace: &Trace, config: &Config, path: &Path) -> Result<Report, Memory>
-    ensures { IfOk result (IsReportOf trace.now.links config.now path.now) }
+    ensures { IfOk result (IsReportBy trace.now config.now path.now) }
 {
+    let graph = trace.view();
     let page = config.page();
     if path.as_str() == page.as_str() {
         return page_report(alloc, page);
     }
-    match chain(alloc, trace.view(), trace.roots(), path)? {
+    match chain(alloc, graph, trace.roots(), path)? {
         None => lost_report(alloc, path),
         Some(found) => chain_report(alloc, trace, config, &found),
     }
