@@ -70,6 +70,7 @@ fn outcome_of(
         Ok(Wanted::Measure { number }) => {
             return Ok((format!(in alloc; "measure {number}")?, None));
         }
+        Ok(Wanted::Why { path }) => return Ok((told_of(alloc, "why ", path.as_str())?, None)),
         Ok(Wanted::Session) => return Ok((owned(alloc, "session")?, None)),
         Err(WordsFault::Refused { fault }) => return Ok((fault_text(alloc, &fault)?, None)),
         Err(WordsFault::Told(_)) => return Ok((owned(alloc, "told")?, None)),

@@ -69,6 +69,12 @@ fn unlink_text(alloc: Global, entries: &[String]) -> io::Result<String> {
     Ok(text)
 }
 
+fn why_text(alloc: Global, path: &str) -> io::Result<String> {
+    let mut text = owned(alloc, "why")?;
+    push_bracketed(&mut text, path)?;
+    Ok(text)
+}
+
 fn command_text(alloc: Global, command: &Command<'_>) -> io::Result<String> {
     match command {
         Command::Link(values, entries) => link_text(alloc, values, entries),
@@ -78,6 +84,7 @@ fn command_text(alloc: Global, command: &Command<'_>) -> io::Result<String> {
         Command::List => owned(alloc, "list"),
         Command::Inject => owned(alloc, "inject"),
         Command::Session => owned(alloc, "session"),
+        Command::Why(path) => why_text(alloc, *path),
         Command::Measure(number) => Ok(format!(in alloc; "measure {number}")?),
     }
 }
