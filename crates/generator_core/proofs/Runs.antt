@@ -8,12 +8,13 @@ use Rattle.tree_spec.specs.Trees.{Tree, Places}
 use Rattle.tree_spec.proofs.ToldStates.{if_some}
 use Rattle.trace_spec.specs.Modules.{Config}
 use Rattle.config_spec.specs.declared.Command.{Command}
-use Rattle.config_spec.specs.declared.Command.TheVariants.{Inject, Check, List as ListModules}
+use Rattle.config_spec.specs.declared.Command.TheVariants.{Why}
 use Rattle.config_spec.specs.Projects.{project_path, IsConfigOf}
 use Rattle.config_spec.specs.Words.{IsCommandOf}
 use Rattle.command_words.specs.declared.fault.WordsFault.{WordsFault}
 use Rattle.command_words.specs.declared.fault.WordsFault.TheVariants as words_fault
 use Rattle.command_words.specs.declared.order.Order.{Order}
+use Rattle.command_words.specs.declared.order.Order.TheVariants as orders
 use Rattle.command_words.specs.Orders.{IsOrder, command_ordered, settings_ordered}
 use Rattle.generator_spec.specs.declared.Refusal.TheVariants as refusal
 use Rattle.generator_spec.specs.Commands.{NewFile}
@@ -22,10 +23,7 @@ use Rattle.generator_spec.specs.Lines.{counts_line, memory_line, write_fault_lin
 use Rattle.generator_spec.specs.Asked.{AsksInOrder, AsksInOrder as asks_in_order, IsConfigAt}
 use Rattle.generator_core.specs.declared.prepared.Prepared.{Prepared}
 use Rattle.generator_spec.specs.Asked.{AsksOwn, AsksFew, own_file}
-use Rattle.generator_core.specs.declared.running.Task.{Task}
-use Rattle.generator_core.specs.declared.running.Task.TheVariants as task_is
-use Rattle.generator_core.specs.Preparing.{KeepsProject, shown_files}
-use Rattle.generator_core.specs.Running.{IsTaskOf, IsTaskOf as tasks}
+use Rattle.generator_core.specs.Preparing.{shown_files}
 use Rattle.generator_core.specs.Writing.{AreSome, EndsWriting, IsWriting, SaysWrite, SaysWrite as says_write, TellsNoMeaning, TellsNoMeaning as tells_text, TellsWords, WritesFiles, WritesFiles as writes_files}
 use Rattle.generator_core.proofs.Endings.{status_done, refusal_not_done, some_same}
 
@@ -34,33 +32,14 @@ use Rattle.generator_core.proofs.Endings.{status_done, refusal_not_done, some_sa
 pub command_is : (words : List (List ℕ)) (order : Order) → IsOrder words order → IsCommandOf words (command_ordered order)
 command_is words order is = record { asked = is.asked; asks = is.asks; is = is.is_order.is; settings = settings_ordered order; sets = is.is_order.sets }
 
--- ---- tasks
-
-pub keeps_task : (command : Command) (task : Task) (keeps : Bool) → IsTaskOf command task → task ≡ task_is.Map keeps → KeepsProject command keeps
-keeps_task _ _ keeps (tasks.writes command kept is) same = let e : kept ≡ keeps = cc in subst (KeepsProject command) e is
-keeps_task _ _ keeps tasks.inject same = absurd (cc)
-keeps_task _ _ keeps tasks.check same = absurd (cc)
-keeps_task _ _ keeps tasks.list same = absurd (cc)
-
-pub inject_task : (command : Command) (task : Task) → IsTaskOf command task → task ≡ task_is.Inject → command ≡ Inject
-inject_task _ _ (tasks.writes command kept is) same = absurd (cc)
-inject_task _ _ tasks.inject same = refl
-inject_task _ _ tasks.check same = absurd (cc)
-inject_task _ _ tasks.list same = absurd (cc)
-
-pub check_task : (command : Command) (task : Task) → IsTaskOf command task → task ≡ task_is.Check → command ≡ Check
-check_task _ _ (tasks.writes command kept is) same = absurd (cc)
-check_task _ _ tasks.inject same = absurd (cc)
-check_task _ _ tasks.check same = refl
-check_task _ _ tasks.list same = absurd (cc)
-
-pub list_task : (command : Command) (task : Task) → IsTaskOf command task → task ≡ task_is.List → command ≡ ListModules
-list_task _ _ (tasks.writes command kept is) same = absurd (cc)
-list_task _ _ tasks.inject same = absurd (cc)
-list_task _ _ tasks.check same = absurd (cc)
-list_task _ _ tasks.list same = refl
-
--- ---- faults of words
+-- no order asks why a file is loaded
+pub not_why : (order : Order) → command_ordered order ≢ Why
+not_why (orders.Link settings entries) e = absurd (cc)
+not_why (orders.Unlink entries) e = absurd (cc)
+not_why orders.Refresh e = absurd (cc)
+not_why orders.Check e = absurd (cc)
+not_why orders.List e = absurd (cc)
+not_why orders.Inject e = absurd (cc)
 
 text_not_done : (out out_after : SinkState) (result : ℕ) → TellsNoMeaning out out_after result → result ≢ 0
 text_not_done out out_after result (tells_text.text text told) zero = let e = status_done 2 text out out_after result told zero in absurd (omega (arith, e))

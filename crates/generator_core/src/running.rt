@@ -1,4 +1,4 @@
-ghost use Rattle.std.specs.Prelude.{◌≡◌, ◌≤◌, List, ℕ, map, string_bytes, IfSome};
+ghost use Rattle.std.specs.Prelude.{◌≡◌, ◌≢◌, ◌≤◌, List, ℕ, map, string_bytes, IfSome};
 ghost use Rattle.words_spec.specs.PlainWords.{most_packages};
 ghost use Rattle.config_spec.specs.declared.Command.{Command as Commanded};
 ghost use Rattle.config_spec.specs.declared.Command.TheVariants.{Inject, Check, Why, List as ListModules};
@@ -12,7 +12,7 @@ ghost use Rattle.generator_core.specs.Preparing.{KeepsProject, shown_file};
 ghost use Rattle.generator_core.specs.Measuring.{RunsMeasure, TellsMeasure};
 ghost use Rattle.generator_core.specs.RunEnds.{IsIdle, RunEnds};
 ghost use Rattle.generator_core.specs.Explaining.{RunsWhy};
-ghost use Rattle.generator_core.specs.Running.{IsTaskOf, RunsCommand};
+ghost use Rattle.generator_core.specs.Running.{RunsCommand};
 ghost use Rattle.generator_core.specs.Spending.{CommandSpends};
 ghost use Rattle.generator_core.specs.Writing.{TellsStop, TellsWords, EndsWriting, WritesFiles};
 
@@ -24,7 +24,7 @@ use crate::prepared::{Fresh, Prepared, prepare_map, prepare_page};
 use crate::project::configured;
 use command_words::{Order, Wanted, WordsFault, order_of};
 use generation::{Generated, Stop};
-use generator_spec::Refusal;
+use generator_spec::{Command, Refusal};
 use primitives::Steps;
 use request_trace::Config;
 use run_texts::{
@@ -111,29 +111,6 @@ fn explain<F: Folder, O: Sink, L: Ledger>(
     }
 }
 
-// What an order does with its config.
-#[derive(Clone, Copy)]
-enum Task {
-    // To generate, and to write the map, and the project where it is kept.
-    Map { keeps: bool },
-    Inject,
-    Check,
-    List,
-}
-
-fn task_of(order: &Order<'_>) -> Task
-    ensures { IsTaskOf (command_ordered order.now) result }
-{
-    match order {
-        Order::Link { .. } => Task::Map { keeps: true },
-        Order::Unlink { .. } => Task::Map { keeps: true },
-        Order::Refresh => Task::Map { keeps: false },
-        Order::Inject => Task::Inject,
-        Order::Check => Task::Check,
-        Order::List => Task::List,
-    }
-}
-
 // Looks for the project, and does what is asked for with it.
 fn ordered<F: Folder, O: Sink, L: Ledger>(
     alloc: Global,
@@ -149,31 +126,34 @@ fn ordered<F: Folder, O: Sink, L: Ledger>(
     ensures steps { CommandSpends (IsGenerating (command_ordered order.entry)) (O.state out.old) (O.state out.new)
         result steps.old steps.new }
 {
-    let task = task_of(&order);
+    let command = order.command();
     match configured(alloc, folder, order) {
-        Ok(config) => commanded(alloc, folder, task, &config, out, steps),
+        Ok(config) => commanded(alloc, folder, command, &config, out, steps),
         Err(stop) => close(alloc, stop, out),
     }
 }
 
-// Does what the command does.
+// Does what the command does, of those that need no more than the config.
 fn commanded<F: Folder, O: Sink, L: Ledger>(
     alloc: Global,
     folder: &mut F,
-    task: Task,
+    command: Command,
     config: &Config,
     out: &mut O,
     steps: &mut Steps<L>,
 ) -> u8
-    ensures { (command : Commanded) → IsTaskOf command task
-        → RunsCommand command config.now (F.state folder.old) (F.state folder.new) (O.state out.old)
+    requires { command ≢ Why }
+    ensures { RunsCommand command config.now (F.state folder.old) (F.state folder.new) (O.state out.old)
         (O.state out.new) result steps.old steps.new }
 {
-    match task {
-        Task::Map { keeps } => write_map(alloc, folder, config, keeps, out, steps),
-        Task::Inject => inject(alloc, folder, config, out, steps),
-        Task::Check => check(alloc, folder, config, out, steps),
-        Task::List => list(alloc, folder, config, out, steps),
+    match command {
+        Command::Link => write_map(alloc, folder, config, true, out, steps),
+        Command::Unlink => write_map(alloc, folder, config, true, out, steps),
+        Command::Refresh => write_map(alloc, folder, config, false, out, steps),
+        Command::Inject => inject(alloc, folder, config, out, steps),
+        Command::Check => check(alloc, folder, config, out, steps),
+        Command::List => list(alloc, folder, config, out, steps),
+        Command::Why => unreachable!(),
     }
 }
 

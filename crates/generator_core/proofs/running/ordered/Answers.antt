@@ -1,11 +1,14 @@
-use Rattle.std.proofs.Common.{rules, subst}
+use Rattle.std.proofs.Common.{rules, sym, subst, ◌∙◌}
 use Rattle.command_words.specs.Orders.{command_ordered}
 use Rattle.generator_spec.specs.Commands.{IsGenerating}
-use Rattle.generator_spec.specs.Asked.{AsksInOrder}
+use Rattle.generator_spec.specs.Asked.{AsksInOrder, IsConfigAt}
 use Rattle.generator_core.specs.Configuring.{FindsConfig}
 use Rattle.generator_core.proofs.Endings.{config_stop_end, ends_from, stop_spends}
-use Rattle.generator_core.proofs.Runs.{command_is, config_asks, config_still, for_all_words, project_asks}
+use Rattle.generator_core.proofs.Runs.{command_is, config_asks, config_still, for_all_words, not_why, project_asks}
 use Rattle.generator_core.proofs.running.ordered.Goals as goal
+
+pub commanded-requires : goal.commanded-requires
+commanded-requires g c = λ why. not_why c.args.order (sym c.command-command.ensures ∙ why)
 
 pub returns-in-Ok-clause-end : goal.returns-in-Ok-clause-end
 returns-in-Ok-clause-end g c =
@@ -14,8 +17,9 @@ returns-in-Ok-clause-end g c =
     let middle = g.F.Folder.state c.configured.new.folder in
     let at = subst (λ r. FindsConfig words (command_ordered c.args.order) before r middle) c.in-Ok.is (c.configured.ensures words is) in
     ends_from words before middle (g.F.Folder.state c.commanded.new.folder) _ _ _ at.found.looks
-    ((c.commanded.ensures (command_ordered c.args.order) c.task_of-task.ensures).end words
-    (config_still words (command_ordered c.args.order) c.in-Ok.config before middle at.found.looks.tree at.found.is))
+    (c.commanded.ensures.end words
+    (subst (λ command. IsConfigAt words command c.in-Ok.config middle) (sym c.command-command.ensures)
+    (config_still words (command_ordered c.args.order) c.in-Ok.config before middle at.found.looks.tree at.found.is)))
 
 pub returns-in-Ok-clause-asked : goal.returns-in-Ok-clause-asked
 returns-in-Ok-clause-asked g c =
@@ -25,11 +29,14 @@ returns-in-Ok-clause-asked g c =
     for_all_words (λ words old. AsksInOrder words before old after) before.asked
     (λ words is.
     let at = subst (λ r. FindsConfig words (command_ordered c.args.order) before r middle) c.in-Ok.is (c.configured.ensures words is) in
-    config_asks words (command_ordered c.args.order) c.in-Ok.config before middle after before.asked at.found.is at.found.looks.tree at.asked
-    (c.commanded.ensures (command_ordered c.args.order) c.task_of-task.ensures).asked)
+    config_asks words c.command-command.result c.in-Ok.config before middle after before.asked
+    (subst (λ command. IsConfigAt words command c.in-Ok.config before) (sym c.command-command.ensures) at.found.is) at.found.looks.tree at.asked c.commanded.ensures.asked)
 
 pub returns-in-Ok-clause-steps : goal.returns-in-Ok-clause-steps
-returns-in-Ok-clause-steps g c = (c.commanded.ensures (command_ordered c.args.order) c.task_of-task.ensures).spends
+returns-in-Ok-clause-steps g c = record {
+  told = λ generating zero. c.commanded.ensures.spends.told (subst IsGenerating (sym c.command-command.ensures) generating) zero;
+  bounded = c.commanded.ensures.spends.bounded;
+}
 
 pub returns-in-Err-clause-end : goal.returns-in-Err-clause-end
 returns-in-Err-clause-end g c =
