@@ -346,11 +346,8 @@ module _ (graph : List (Place vertex.Module)) (slot : Slot) (v : vertex.Module) 
   asked_here : slice_get (source_of v).specifiers number ≡ slice_get (source_in (value_at graph slot)).specifiers number
   asked_here = ap (λ some. slice_get (source_in some).specifiers number) (sym here)
 
-  pub asked_found : (text : Bor (List ℕ)) → found ≡ Some text → option_copied found ≡ asked_at v number → text.now ≡ unwrap_or (slice_get (source_in (value_at graph slot)).specifiers number) []
-  asked_found text is lends = entry_found found (source_in (value_at graph slot)).specifiers number text is (lends ∙ (asked_is v number ∙ asked_here))
-
-  pub none_asked : found ≡ None → option_copied found ≡ asked_at v number → [] ≡ unwrap_or (slice_get (source_in (value_at graph slot)).specifiers number) []
-  none_asked none lends = no_entry found (source_in (value_at graph slot)).specifiers number none (lends ∙ (asked_is v number ∙ asked_here))
+  pub asked_found : option_copied found ≡ asked_at v number → unwrap_or (option_copied found) [] ≡ unwrap_or (slice_get (source_in (value_at graph slot)).specifiers number) []
+  asked_found lends = ap (λ some. unwrap_or some []) (lends ∙ (asked_is v number ∙ asked_here))
 
 -- the line of a module is that of its slot
 pub step_pushed :

@@ -1,6 +1,6 @@
 //! What is said of a file that the page may come to load, or why nothing is said.
 
-ghost use Rattle.std.specs.Prelude.{◌≡◌, ◌≤◌, ◌+◌, ◌++◌, [], IfOk, OnOk, Some, slice_get, unwrap_or};
+ghost use Rattle.std.specs.Prelude.{◌≡◌, ◌≤◌, ◌+◌, ◌++◌, [], IfOk, OnOk, Some, option_copied, slice_get, unwrap_or};
 ghost use Rattle.std.specs.List.{concat};
 ghost use Rattle.slot_arena.specs.Slots.{value_at};
 ghost use Rattle.tree_spec.specs.declared.LimitName.TheVariants.{Modules, Requests};
@@ -8,6 +8,7 @@ ghost use Rattle.tree_spec.specs.Limits.{limit_number};
 ghost use Rattle.trace_graph.specs.Links.{IsLive, module_in};
 ghost use Rattle.generator_spec.specs.Explaining.{request_line};
 ghost use Rattle.generator_spec.specs.Lines as spec;
+ghost use Rattle.generator_spec.specs.Statuses.{done_status, not_reached_status};
 ghost use Rattle.generator_core.specs.Explaining.{AreLive, ExplainsFile, IsReportBy, specifiers_of, step_lines};
 
 use crate::checking::Report;
@@ -56,14 +57,14 @@ fn reported(alloc: Global, trace: &Trace, config: &Config, path: &Path) -> Resul
 }
 
 fn page_report(alloc: Global, page: &Path) -> Result<Report, Memory>
-    ensures { IfOk result (λ report. (report.status ≡ 0) × (report.text.items ≡ spec.from_page_line page.now)) }
+    ensures { IfOk result (λ report. (report.status ≡ done_status) × (report.text.items ≡ spec.from_page_line page.now)) }
 {
     let text = from_page_line(alloc, page.as_str())?;
     Ok(Report { status: DONE, text })
 }
 
 fn lost_report(alloc: Global, path: &Path) -> Result<Report, Memory>
-    ensures { IfOk result (λ report. (report.status ≡ 10) × (report.text.items ≡ spec.not_reached_line path.now)) }
+    ensures { IfOk result (λ report. (report.status ≡ not_reached_status) × (report.text.items ≡ spec.not_reached_line path.now)) }
 {
     let text = not_reached_line(alloc, path.as_str())?;
     Ok(Report {
@@ -79,7 +80,7 @@ fn chain_report(
     found: &Chain,
 ) -> Result<Report, Memory>
     requires { AreLive trace.now.links.graph found.now }
-    ensures { IfOk result (λ report. (report.status ≡ 0)
+    ensures { IfOk result (λ report. (report.status ≡ done_status)
         × (report.text.items ≡ spec.from_page_line config.now.page
         ++ concat (step_lines trace.now.links.graph config.now.entries found.now))) }
 {
@@ -171,9 +172,15 @@ fn asked_at<'a>(trace: &'a Trace, slot: Slot, number: usize) -> &'a str
     let graph = trace.view();
     match graph.module(slot) {
         None => "",
-        Some(module) => match module.request(number) {
-            None => "",
-            Some(text) => text,
-        },
+        Some(module) => or_empty(module.request(number)),
+    }
+}
+
+fn or_empty(text: Option<&str>) -> &str
+    ensures { result.now ≡ unwrap_or (option_copied text) [] }
+{
+    match text {
+        None => "",
+        Some(text) => text,
     }
 }
