@@ -15,14 +15,11 @@ use Rattle.slot_arena.specs.Slots.{Place, value_at}
 use Rattle.slot_arena.specs.declared.slot.Slot.{Slot}
 use Rattle.module_graph.specs.declared.module.Module as vertex
 use Rattle.module_graph.specs.Graphs.{AreModules}
-use Rattle.tree_spec.specs.Paths.{IsPath}
 use Rattle.tree_spec.specs.States.{FolderState, SinkState, OnlyLooks}
 use Rattle.tree_spec.specs.Trees.{Tree}
 use Rattle.tree_spec.proofs.ToldStates.{if_all, if_some, if_two, looks_as}
 use Rattle.trace_graph.specs.Links.{Links, module_in, source_in, source_of, IsLinked, IsLive}
-use Rattle.trace_spec.specs.Checks.{Gathered}
 use Rattle.trace_spec.specs.Modules.{Config}
-use Rattle.trace_spec.specs.Traces.{traced}
 use Rattle.words_spec.proofs.PlainIsRead.{one_asked}
 use Rattle.words_spec.proofs.ReadIsPlain.{read_is_plain}
 use Rattle.words_spec.specs.PlainWords.{Asked, explaining, refreshing}
@@ -31,6 +28,7 @@ use Rattle.config_spec.proofs.WordsJudged.{explained_path}
 use Rattle.config_spec.specs.declared.Command.{Command}
 use Rattle.config_spec.specs.declared.Command.TheVariants.{Refresh, Why}
 use Rattle.config_spec.specs.declared.ConfigFault.{ConfigFault}
+use Rattle.config_spec.specs.declared.ProjectFault.{ProjectFault}
 use Rattle.config_spec.specs.Projects.{config_by, CanRefuseConfig, Configures, IsConfigFor, IsConfigOf, RefusesAsked}
 use Rattle.config_spec.specs.Projects.RefusesAsked.{bad_project, no_project, no_base, too_many_entries, not_linked}
 use Rattle.config_spec.specs.Words.{AsksWhy, IsCommandOf, no_settings, options_of, Sets, Settings}
@@ -85,7 +83,7 @@ module _ (words : List (List ℕ)) (path : List ℕ) (is : AsksWhyAt words path)
         comes = found.comes ∙ (ap (λ a. config_by a found.settings found.found) asked ∙ as_it_stands found.settings found.found);
       }
     where
-      as_it_stands : (settings : Settings) (held : _) → config_by refreshing settings held ≡ config_by (explaining path) no_settings held
+      as_it_stands : (settings : Settings) (held : Result (Option Config) ProjectFault) → config_by refreshing settings held ≡ config_by (explaining path) no_settings held
       as_it_stands settings (Err fault) = refl
       as_it_stands settings (Ok held) = refl
 

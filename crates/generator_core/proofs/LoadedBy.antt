@@ -1,7 +1,7 @@
 -- What the graph of a trace says of a path is what its tree says.
-use Rattle.std.proofs.Common.{◌≡◌, ◌≢◌, ◌++◌, ⊤, ℕ, zero, suc, List, [], ◌∷◌, length, map, Option, Some, None, Ok, Contains, refl, sym, ap, ◌∙◌, subst, inl, inr, arith}
+use Rattle.std.proofs.Common.{◌≡◌, ◌≢◌, ◌++◌, ℕ, zero, suc, List, [], ◌∷◌, length, map, Option, Some, None, Ok, Contains, refl, sym, ap, ◌∙◌, subst, inl, inr, arith}
 use Rattle.std.specs.List.{filter_map, cons_option}
-use Rattle.std.specs.Prelude.{bytes_eq, flat_map, option_map, slice_get, unwrap_or}
+use Rattle.std.specs.Prelude.{⊤, bytes_eq, flat_map, option_map, slice_get, unwrap_or}
 use Rattle.std.proofs.lemmas.List.{map-append, length-map}
 use Rattle.std.proofs.lemmas.List.Elements.{All-nil, All-cons, All-contains, Contains-append_left, Contains-append_right}
 use Rattle.std.proofs.lemmas.List.Folds.{flat_map-map}
@@ -14,13 +14,13 @@ use Rattle.chain_spec.proofs.ChainLaws.{page_itself}
 use Rattle.chain_spec.specs.Chains.{Asker, by_page, by_module}
 use Rattle.chain_why.specs.Answers.{GoesBy, IsAnswer, numbers_of}
 use Rattle.chain_why.specs.Shown.{slot_of, stands_at, targets_of as slots_asked, targets_in as slots_in, is_at as slot_at}
-use Rattle.slot_arena.specs.Slots.{Place, place_at, value_at}
+use Rattle.slot_arena.specs.Slots.{Place, value_at}
 use Rattle.slot_arena.specs.declared.slot.Slot.{Slot}
 use Rattle.module_graph.specs.declared.module.Module as vertex
 use Rattle.module_graph.specs.Graphs.{AreModules}
 use Rattle.trace_graph.proofs.Alone.{live_listed, stands}
 use Rattle.trace_graph.proofs.Showing.{as_many_specifiers}
-use Rattle.trace_graph.specs.Links.{Links, IsLinked, IsLive, IsSet, module_of, source_of, module_in, source_in, targets_in, all_targets, led_to}
+use Rattle.trace_graph.specs.Links.{Links, IsLinked, IsLive, IsSet, module_in, source_in, targets_in, all_targets, led_to}
 use Rattle.trace_spec.proofs.Traces.{goes_in_order}
 use Rattle.trace_spec.specs.Laws.{InOrder}
 use Rattle.trace_spec.specs.Modules.{Config, Module}
@@ -255,7 +255,7 @@ module _ (sights : Sights) (config : Config) (trace : Traced) (traces : traced s
     wanted other (by_module s) good = by (value_at graph s) (alive_at s good)
       where
         by : (found : Option vertex.Module) → (v : vertex.Module) × (found ≡ Some v) → stands_at path found ≡ bytes_eq (module_in found).path path
-        by None (v, e) = absurd (cc)
+        by None alive = let e : None ≡ Some alive.0 = alive.1 in absurd (cc)
         by (Some w) alive = refl
 
     are_mapped : path ≢ config.page → AreMapped named OfTrace (slots_in graph trace.links.roots) (asked_by sights config) (slot_at graph path) (is_at config path)

@@ -1,6 +1,6 @@
 -- Chains of two graphs, of which one is the other seen through a map of its modules.
-use Rattle.std.proofs.Common.{◌≡◌, ⊤, ℕ, Bool, true, List, [], ◌∷◌, Option, Some, None, map, refl, sym, ap, ◌∙◌, subst}
-use Rattle.std.specs.Prelude.{option_map, slice_get, ◌↔◌}
+use Rattle.std.proofs.Common.{◌≡◌, ℕ, Bool, List, [], ◌∷◌, Option, Some, None, map, refl, sym, ap, ◌∙◌, subst}
+use Rattle.std.specs.Prelude.{◌↔◌, ⊤, option_map, slice_get}
 use Rattle.std.proofs.lemmas.Option.{slice_get-map}
 use Rattle.chain_spec.specs.Chains.{Asker, by_page, by_module, Targets, then_on, end_of, IsChain, IsShortest}
 

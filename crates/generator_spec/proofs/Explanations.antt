@@ -4,11 +4,11 @@ use Rattle.std.specs.Prelude.{bytes_eq, slice_get}
 use Rattle.std.proofs.lemmas.Bool.{cases_Bool}
 use Rattle.tree_spec.specs.LookAskings.{Sights}
 use Rattle.chain_spec.proofs.ChainLaws.{chain_where_reached, one_shortest, some_shortest}
-use Rattle.chain_spec.specs.Chains.{Asker, by_page, by_module, IsChain, IsShortest, IsReached, page, asks}
+use Rattle.chain_spec.specs.Chains.{Asker, by_page, by_module, IsChain, IsReached, page, asks}
 use Rattle.layout_spec.proofs.Contained.{contains_at, contains_here, contains_there, contains_cases, contains_none}
 use Rattle.trace_spec.proofs.Traces.{is_what_is_reached}
 use Rattle.trace_spec.specs.Checks.{Gathered}
-use Rattle.trace_spec.specs.Levels.{Reached, requested, page as the_start}
+use Rattle.trace_spec.specs.Levels.{requested, page as the_start}
 use Rattle.trace_spec.specs.Modules.{Config, Module}
 use Rattle.trace_spec.specs.Traces.{targets, traced, ReachedByPage}
 use Rattle.trace_spec.specs.Walking.{Referrer, the_page, a_module}
@@ -16,7 +16,7 @@ use Rattle.words_spec.proofs.PlainIsRead.{one_asked}
 use Rattle.words_spec.specs.PlainWords.{explaining}
 use Rattle.config_spec.specs.Words.{AsksWhy}
 use Rattle.generator_spec.specs.Explaining.{referrer_of, asked_by, is_at, chain_lines, SaysWhy, SaysWhy as says_why}
-use Rattle.generator_spec.specs.Lines.{from_page_line, not_reached_line}
+use Rattle.generator_spec.specs.Lines.{from_page_line}
 
 pub one_path_asked : (words : List (List ℕ)) (path other : List ℕ) → AsksWhy words path → AsksWhy words other → path ≡ other
 one_path_asked words path other asks_one asks_other =

@@ -1,5 +1,5 @@
 -- Where the slots of a list are as many as are live, no other slot is live.
-use Rattle.std.proofs.Common.{◌≡◌, ◌≢◌, ◌≤◌, ◌<◌, ◌+◌, ◌⊎◌, ℕ, zero, suc, Bool, true, false, List, [], ◌∷◌, length, Option, Some, None, Contains, refl, sym, ap, ◌∙◌, subst, inl, inr, arith}
+use Rattle.std.proofs.Common.{◌≡◌, ◌≢◌, ◌≤◌, ◌<◌, ◌+◌, ◌⊎◌, ℕ, zero, suc, Bool, true, false, List, [], ◌∷◌, length, Some, None, Contains, refl, sym, ap, ◌∙◌, subst, inl, inr, arith}
 use Rattle.std.specs.Prelude.{◌==◌, All, slice_set, if◌then◌else◌}
 use Rattle.std.proofs.lemmas.Bool.{eq-eqb, eqb-true}
 use Rattle.std.proofs.lemmas.List.{get_or-set_other}
@@ -60,11 +60,13 @@ module _ (g : Places) (s : Slot) (v : vertex.Module) (is : Stands g s v) where
   fewer =
       let counted = live-set g s.index (place None (s.generation + 1)) within in
       let full : fullness (place_at g s.index) ≡ 1 = ap fullness_of is.value in
-      omega (arith, counted, full)
+      let empty : fullness_of {X = vertex.Module} None ≡ 0 = refl in
+      omega (arith, counted, full, empty)
 
   still : (t : Slot) → t ≢ s → IsLive g t → IsLive emptied t
-  still t apart (w, e) =
-      let two = stands g t w e in
+  still t apart alive =
+      let w = alive.0 in
+      let two = stands g t w alive.1 in
       let elsewhere = get_or-set_other g s.index t.index (place None (s.generation + 1)) (place None 0) (λ same. other_place g s t v w is two (λ e. apart (sym e)) (sym same)) in
       (w, live_there emptied t w (record { value = ap (λ (p : Place vertex.Module). p.value) elsewhere ∙ two.value; last = ap (λ (p : Place vertex.Module). p.next) elsewhere ∙ two.last }))
 

@@ -1,4 +1,4 @@
-use Rattle.std.proofs.Common.{◌≡◌, ◌≤◌, ◌++◌, ◌-◌, length}
+use Rattle.std.proofs.Common.{◌≡◌, ◌++◌, ◌-◌, length}
 use Rattle.std.specs.List.{concat}
 use Rattle.generator_core.specs.Explaining.{step_lines}
 use Rattle.generator_core.proofs.Explainings.{lines_left}
