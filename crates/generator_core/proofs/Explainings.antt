@@ -29,7 +29,7 @@ use Rattle.config_spec.specs.declared.Command.{Command}
 use Rattle.config_spec.specs.declared.Command.TheVariants.{Refresh, Why}
 use Rattle.config_spec.specs.declared.ConfigFault.{ConfigFault}
 use Rattle.config_spec.specs.declared.ProjectFault.{ProjectFault}
-use Rattle.config_spec.specs.Projects.{config_by, CanRefuseConfig, Configures, IsConfigFor, IsConfigOf, RefusesAsked}
+use Rattle.config_spec.specs.Projects.{config_by, CanRefuseConfig, Configures, IsConfigFor, IsConfigOf, RefusesAsked, RefusesConfig}
 use Rattle.config_spec.specs.Projects.RefusesAsked.{bad_project, no_project, no_base, too_many_entries, not_linked}
 use Rattle.config_spec.specs.Words.{AsksWhy, IsCommandOf, no_settings, options_of, Sets, Settings}
 use Rattle.command_words.specs.Orders.{AsksWhyAt}
@@ -120,27 +120,28 @@ module _ (words : List (List ℕ)) (path : List ℕ) (is : AsksWhyAt words path)
         refuses = refreshed_refuses can.asked fault asked can.refuses;
       }
 
+  -- `refresh` asks for no other command
+  same_refresh : {tree : Tree} {fault : ConfigFault} (command : Command) → Configures refresh_words tree command (Err fault) → Configures refresh_words tree Refresh (Err fault)
+  same_refresh command found =
+      let asked = one_asked refresh_words found.asked refreshing found.asks (read_is_plain refresh_words refreshing refl) in
+      record {
+        asked = refreshing;
+        asks = read_is_plain refresh_words refreshing refl;
+        is = refl;
+        settings = found.settings;
+        sets = subst (λ a. Sets (options_of a) found.settings) asked found.sets;
+        found = found.found;
+        holds = found.holds;
+        comes = found.comes ∙ ap (λ a. config_by a found.settings found.found) asked;
+      }
+
+  refreshed_fault : (tree : Tree) (fault : ConfigFault) → RefusesConfig refresh_words tree fault → RefusesConfig words tree fault
+  refreshed_fault tree fault because = record { command = Why; configures = refreshed (same_refresh because.command because.configures) }
+
   module _ (before after : FolderState) where
     stopped_too : (stop : Stop) → StopsConfig refresh_words before after stop → StopsConfig words before after stop
     stopped_too stop (stops_config.refused fault same refuses can looks) =
-        stops_config.refused fault same
-        (if_some before.holds (λ tree because. record { command = Why; configures = refreshed (same_refresh tree fault because.command because.configures) }) refuses)
-        (refreshed_can fault can) looks
-      where
-        -- the words ask for no other command
-        same_refresh : (tree : Tree) (fault : ConfigFault) (command : Command) → Configures refresh_words tree command (Err fault) → Configures refresh_words tree Refresh (Err fault)
-        same_refresh tree fault command found =
-            let asked = one_asked refresh_words found.asked refreshing found.asks (read_is_plain refresh_words refreshing refl) in
-            record {
-              asked = refreshing;
-              asks = read_is_plain refresh_words refreshing refl;
-              is = refl;
-              settings = found.settings;
-              sets = subst (λ a. Sets (options_of a) found.settings) asked found.sets;
-              found = found.found;
-              holds = found.holds;
-              comes = found.comes ∙ ap (λ a. config_by a found.settings found.found) asked;
-            }
+        stops_config.refused fault same (if_some before.holds (λ tree because. refreshed_fault tree fault because) refuses) (refreshed_can fault can) looks
     stopped_too stop (stops_config.read_fault same looks) = stops_config.read_fault same looks
     stopped_too stop (stops_config.memory same looks) = stops_config.memory same looks
 

@@ -106,7 +106,7 @@ fn explain<F: Folder, O: Sink, L: Ledger>(
     ensures steps { CommandSpends (IsGenerating Why) (O.state out.old) (O.state out.new) result steps.old steps.new }
 {
     match configured(alloc, folder, Order::Refresh) {
-        Ok(config) => why(alloc, folder, &config, path, out, steps),
+        Ok(config) => tell_why(alloc, folder, &config, path, out, steps),
         Err(stop) => close(alloc, stop, out),
     }
 }
@@ -228,7 +228,7 @@ fn list<F: Folder, O: Sink, L: Ledger>(
 }
 
 // `why`: traces, and says by which requests the page comes to load the file, or that it doesn't.
-fn why<F: Folder, O: Sink, L: Ledger>(
+fn tell_why<F: Folder, O: Sink, L: Ledger>(
     alloc: Global,
     folder: &mut F,
     config: &Config,

@@ -4,7 +4,7 @@ use Rattle.generator_spec.specs.Ending.{Ends}
 use Rattle.generator_core.specs.Explaining.{ExplainsFile}
 use Rattle.generator_core.proofs.Endings.{stop_end}
 use Rattle.generator_core.proofs.Explainings.{why_ends}
-use Rattle.generator_core.proofs.running.why.Goals as goal
+use Rattle.generator_core.proofs.running.tell_why.Goals as goal
 
 pub returns-in-Ok : goal.returns-in-Ok
 returns-in-Ok g c = record {
