@@ -59,7 +59,7 @@ digests() {
     [ "$(grep -c '": "sha384-' "$map")" = 9 ]
 }
 
-# Why the older of two versions is loaded there, against lines typed by hand; and a file that nothing asks for.
+# Why the older of two versions is loaded there, against lines typed by hand; and of a path to which nothing leads.
 explained() {
     (cd "$kept/packages" && "$program" why /node_modules/cards/node_modules/numbers/lib/numbers.js >"$kept/out") &&
         diff examples/expected-why.txt "$kept/out" || return 1
