@@ -189,7 +189,7 @@ module _ (path : List ℕ) (config : Config) (before after : FolderState) where
     are_asks graph specifiers [] = All-nil IsAsksLine
     are_asks graph specifiers (step ∷ more) =
         All-cons IsAsksLine (request_line specifiers step.0 (module_in (value_at graph step.1))) (step_lines graph (source_in (value_at graph step.1)).specifiers more)
-        (record { specifier = _; name = _; says = refl }) (are_asks graph (source_in (value_at graph step.1)).specifiers more)
+        (record { specifier = unwrap_or (slice_get specifiers step.0) []; name = (module_in (value_at graph step.1)).path ++ (module_in (value_at graph step.1)).suffix; says = refl }) (are_asks graph (source_in (value_at graph step.1)).specifiers more)
 
     shape : (links : Links) (status : ℕ) (lines : List (List ℕ)) → GraphSays links config path status lines → TellsChain config.page path status lines
     shape links status lines (graph_says.own_page same s l) = chain.reached [] (All-nil IsAsksLine) s l
@@ -305,12 +305,10 @@ step_found found steps index number slot is lends = sym lends ∙ ap (option_map
 
 pub past_steps :
     (found : Option (Bor ℕ × Bor Slot)) (steps : List (ℕ × Slot)) (index : ℕ)
-    → ((number : Bor ℕ) (slot : Bor Slot) → found ≡ Some (number, slot) → ⊥) → option_map lent found ≡ slice_get steps index
-    → length steps ≤ index
-past_steps (Some step) steps index none lends = absurd (none step.0 step.1 refl)
-past_steps None steps index none lends =
+    → found ≡ None → option_map lent found ≡ slice_get steps index → length steps ≤ index
+past_steps found steps index none lends =
     elim ((slice_get_cases steps index).1) [
-      | inl there ↦ (let wrong : None ≡ Some there.0 = lends ∙ there.2.0 in absurd (cc))
+      | inl there ↦ (let wrong : None ≡ Some there.0 = sym (ap (option_map lent) none) ∙ (lends ∙ there.2.0) in absurd (cc))
       | inr past ↦ past.0
     ]
 

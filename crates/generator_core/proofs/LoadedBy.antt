@@ -3,12 +3,12 @@ use Rattle.std.proofs.Common.{◌≡◌, ◌≢◌, ◌++◌, ℕ, zero, suc, Li
 use Rattle.std.specs.List.{filter_map, cons_option}
 use Rattle.std.specs.Prelude.{⊤, bytes_eq, flat_map, option_map, slice_get, unwrap_or}
 use Rattle.std.proofs.lemmas.List.{map-append, length-map}
-use Rattle.std.proofs.lemmas.List.Elements.{All-nil, All-cons, All-contains, Contains-append_left, Contains-append_right}
+use Rattle.std.proofs.lemmas.List.Elements.{All-nil, All-cons, All-contains}
 use Rattle.std.proofs.lemmas.List.Folds.{flat_map-map}
 use Rattle.std.proofs.lemmas.Slice.Eq.{bytes_eq-Decides}
 use Rattle.tree_spec.proofs.ByteLists.{other_text}
 use Rattle.tree_spec.proofs.Contained.{contains_here, contains_there, contains_cases, contains_none}
-use Rattle.layout_spec.proofs.Contained.{contains_at}
+use Rattle.layout_spec.proofs.Contained.{contains_at, contains_flat}
 use Rattle.tree_spec.specs.LookAskings.{Sights}
 use Rattle.chain_spec.proofs.ChainLaws.{page_itself}
 use Rattle.chain_spec.specs.Chains.{Asker, by_page, by_module}
@@ -89,22 +89,13 @@ map_at f h (first ∷ xs) e x held =
       | inr later ↦ map_at f h xs more x later
     ]
 
--- what a part holds, the parts together hold
-in_parts : {X A : Type 0} (f : X → List A) (xs : List X) (x : X) → Contains xs x → (y : A) → Contains (f x) y → Contains (flat_map f xs) y
-in_parts f [] x held y there = absurd (contains_none x held)
-in_parts f (first ∷ xs) x held y there =
-    elim (contains_cases x first xs held) [
-      | inl is ↦ Contains-append_left (f first) (flat_map f xs) y (subst (λ z. Contains (f z) y) (sym is) there)
-      | inr later ↦ Contains-append_right (f first) (flat_map f xs) y (in_parts f xs x later y there)
-    ]
-
 -- ---- what a graph keeps
 
 module _ (links : Links) (linked : IsLinked links) where
   set_here : (s : Slot) → IsLive links.graph s → (target : Option Slot) → Contains (targets_in (value_at links.graph s)) target → IsSet links.graph target
   set_here s alive target there =
       All-contains (IsSet links.graph) (all_targets links) target linked.targets
-      (in_parts (λ t. targets_in (value_at links.graph t)) links.slots s (live_listed links linked s alive) target there)
+      (contains_flat (λ t. targets_in (value_at links.graph t)) s target links.slots (live_listed links linked s alive) there)
 
   -- each request of a module has its target
   pub all_set : (s : Slot) (v : vertex.Module) → value_at links.graph s ≡ Some v → (number : ℕ) → slice_get v.targets number ≡ Some None → ⊥

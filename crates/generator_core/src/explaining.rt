@@ -1,6 +1,6 @@
 //! What is said of a file that the page may come to load, or why nothing is said.
 
-ghost use Rattle.std.specs.Prelude.{◌≡◌, ◌≤◌, ◌+◌, ◌++◌, [], IfOk, OnOk, Some, option_copied, slice_get, unwrap_or};
+ghost use Rattle.std.specs.Prelude.{◌≡◌, ◌≤◌, ◌<◌, ◌+◌, ◌++◌, [], IfOk, OnOk, Some, length, option_copied, slice_get, unwrap_or};
 ghost use Rattle.std.specs.List.{concat};
 ghost use Rattle.slot_arena.specs.Slots.{value_at};
 ghost use Rattle.tree_spec.specs.declared.LimitName.TheVariants.{Modules, Requests};
@@ -102,13 +102,22 @@ fn push_steps(
         ≡ text.old.items ++ concat (step_lines trace.now.links.graph config.now.entries found.now)) }
 {
     let mut from = None;
-    let mut index = 0;
-    while let Some((number, slot)) = found.at(index) {
-        push_step(alloc, text, trace, config, from, *number, *slot)?;
-        from = Some(*slot);
-        index += 1;
+    for index in 0..found.len() {
+        let (number, slot) = step_at(found, index);
+        push_step(alloc, text, trace, config, from, number, slot)?;
+        from = Some(slot);
     }
     Ok(())
+}
+
+fn step_at(found: &Chain, index: usize) -> (usize, Slot)
+    requires { index < length found.now }
+    ensures { slice_get found.now index ≡ Some result }
+{
+    match found.at(index) {
+        Some((number, slot)) => (*number, *slot),
+        None => unreachable!(),
+    }
 }
 
 // The line of one request: of the page, or of the module under a slot.
