@@ -3,8 +3,9 @@ use Rattle.std.proofs.Common.{◌≡◌, ◌≢◌, ◌≤◌, ◌+◌, ◌++◌
 use Rattle.std.proofs.lemmas.List.{append-nil, drop_all}
 use Rattle.std.specs.FinMap.{get}
 use Rattle.std.specs.List.{concat}
-use Rattle.std.specs.Prelude.{All, option_copied, option_map, slice_get, unwrap_or}
-use Rattle.std.proofs.lemmas.Option.{slice_get-map, slice_get_cases}
+use Rattle.std.specs.Prelude.{All, get_or, option_copied, option_map, slice_get, unwrap_or}
+use Rattle.std.proofs.lemmas.Bool.{cases_lt}
+use Rattle.std.proofs.lemmas.Option.{slice_get-get_or, slice_get-map}
 use Rattle.std.proofs.lemmas.List.Elements.{All-contains}
 use Rattle.layout_spec.proofs.Contained.{contains_at}
 use Rattle.module_spec.specs.declared.request.Request.{Request}
@@ -297,6 +298,9 @@ no_step graph entries steps index from whole text over left =
 abbrev pub lent : Bor ℕ × Bor Slot → ℕ × Slot
 lent step = (step.0.now, step.1.now)
 
+abbrev any_step : ℕ × Slot
+any_step = (0, record { index = 0; generation = 0 })
+
 pub step_found :
     (found : Option (Bor ℕ × Bor Slot)) (steps : List (ℕ × Slot)) (index : ℕ) (number : Bor ℕ) (slot : Bor Slot)
     → found ≡ Some (number, slot) → option_map lent found ≡ slice_get steps index
@@ -307,9 +311,9 @@ pub past_steps :
     (found : Option (Bor ℕ × Bor Slot)) (steps : List (ℕ × Slot)) (index : ℕ)
     → found ≡ None → option_map lent found ≡ slice_get steps index → length steps ≤ index
 past_steps found steps index none lends =
-    elim ((slice_get_cases steps index).1) [
-      | inl there ↦ (let wrong : None ≡ Some there.0 = sym (ap (option_map lent) none) ∙ (lends ∙ there.2.0) in absurd (cc))
-      | inr past ↦ past.0
+    elim (cases_lt index (length steps)) [
+      | inl within ↦ (let wrong : None ≡ Some (get_or steps index any_step) = sym (ap (option_map lent) none) ∙ (lends ∙ slice_get-get_or steps index any_step within) in absurd (cc))
+      | inr over ↦ over
     ]
 
 pub step_alive :
