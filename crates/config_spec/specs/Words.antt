@@ -9,8 +9,8 @@
 --     Measures words number             they ask for the map of a stated tree of so many packages
 --     AsksWhy words path                they ask why the file at this path is loaded
 --     IsSession words                   they ask for a session on a project
---     RefusesWords words fault          plain words that ask for a command and have such a text, or for a file by what isn't
---                                       a path
+--     RefusesWords words fault          plain words that ask for a command and have such a text, or that ask for a file
+--                                       by what isn't a path
 use Rattle.std.specs.Prelude.{◌≡◌, ℕ, List, Option, Some, None, if◌then◌else◌}
 use Rattle.tree_spec.specs.Paths.{IsPath}
 use Rattle.url_spec.specs.Bases.{base_of}
@@ -25,8 +25,8 @@ use Rattle.config_spec.specs.declared.Command.TheVariants.{List as Lists}
 use Rattle.config_spec.specs.declared.ConfigFault.{ConfigFault}
 use Rattle.config_spec.specs.declared.ConfigFault.TheVariants.{BadBase, BadPath, BadConditions}
 
--- own: a session is no command that ends by itself, a measure needs no project, and no file is asked for by what isn't a
--- path
+-- own: a session is no command that ends by itself, a measure needs no project, and no file is asked for by what
+-- isn't a path
 abbrev pub command_of : Asked → Option Command
 command_of (linking options entries) = Some Link
 command_of (unlinking entries) = Some Unlink

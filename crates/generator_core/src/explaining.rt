@@ -1,6 +1,7 @@
 //! What is said of a file that the page may come to load, or why nothing is said.
 
-ghost use Rattle.std.specs.Prelude.{◌≡◌, ◌≤◌, ◌<◌, ◌+◌, ◌++◌, [], IfOk, OnOk, Some, length, option_copied, slice_get, unwrap_or};
+ghost use Rattle.std.specs.Prelude.{◌≡◌, ◌≤◌, ◌<◌, ◌+◌, ◌++◌, [], IfOk, OnOk, Some, length};
+ghost use Rattle.std.specs.Prelude.{option_copied, slice_get, unwrap_or};
 ghost use Rattle.std.specs.List.{concat};
 ghost use Rattle.slot_arena.specs.Slots.{value_at};
 ghost use Rattle.tree_spec.specs.declared.LimitName.TheVariants.{Modules, Requests};
@@ -57,14 +58,16 @@ fn reported(alloc: Global, trace: &Trace, config: &Config, path: &Path) -> Resul
 }
 
 fn page_report(alloc: Global, page: &Path) -> Result<Report, Memory>
-    ensures { IfOk result (λ report. (report.status ≡ done_status) × (report.text.items ≡ spec.from_page_line page.now)) }
+    ensures { IfOk result (λ report. (report.status ≡ done_status)
+        × (report.text.items ≡ spec.from_page_line page.now)) }
 {
     let text = from_page_line(alloc, page.as_str())?;
     Ok(Report { status: DONE, text })
 }
 
 fn lost_report(alloc: Global, path: &Path) -> Result<Report, Memory>
-    ensures { IfOk result (λ report. (report.status ≡ not_reached_status) × (report.text.items ≡ spec.not_reached_line path.now)) }
+    ensures { IfOk result (λ report. (report.status ≡ not_reached_status)
+        × (report.text.items ≡ spec.not_reached_line path.now)) }
 {
     let text = not_reached_line(alloc, path.as_str())?;
     Ok(Report {

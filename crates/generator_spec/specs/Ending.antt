@@ -121,8 +121,8 @@ pub record IsMeasured (words : List (List ℕ)) : Type 0 where
   pub map : List ℕ
   pub generates : Generates (tree_of number) measure_config map
 
--- own: the map was written; or the map that is there serves, or the modules were listed, or it was told how a file comes
--- to be loaded, or a stated tree was measured, and nothing was written
+-- own: the map was written; or the map that is there serves, or the modules were listed, or it was told how a file
+-- comes to be loaded, or a stated tree was measured, and nothing was written
 pub data IsDone (words : List (List ℕ)) (tree : Tree) (told : Option Tree) : Type 0 where
   linked : Linked words tree told → IsDone words tree told
   served : MapServes words tree → told ≡ Some tree → IsDone words tree told
