@@ -78,7 +78,7 @@ module _ (sights : Sights) (config : Config) (path : List ℕ) where
       asks (asker_of referrer) number.0 target (to_reached referrer before)
       (ap (λ r. slice_get (targets sights config r) number.0) (same_asker referrer) ∙ number.1)
 
-  from_reached : (asker : Asker Module) → IsReached (asked_by sights config) asker → ReachedByPage sights config (referrer_of asker)
+  pub from_reached : (asker : Asker Module) → IsReached (asked_by sights config) asker → ReachedByPage sights config (referrer_of asker)
   from_reached _ page = the_start
   from_reached _ (asks from number m before there) =
       requested {referrer = referrer_of from} {target = m} (from_reached from before)
