@@ -11,7 +11,6 @@ use Rattle.layout_spec.proofs.Contained.{contains_at}
 use Rattle.module_spec.specs.declared.request.Request.{Request}
 use Rattle.module_graph.specs.Modules.{asked_at, asked_by}
 use Rattle.primitives.proofs.ListSteps.{drop_at}
-use Rattle.std.proofs.lemmas.List.Elements.{All-nil, All-cons}
 use Rattle.slot_arena.specs.Slots.{Place, value_at}
 use Rattle.slot_arena.specs.declared.slot.Slot.{Slot}
 use Rattle.module_graph.specs.declared.module.Module as vertex
@@ -41,8 +40,7 @@ use Rattle.generation.specs.declared.stop.Stop.TheVariants.{Refused, ReadFault, 
 use Rattle.generation.specs.Generating.{Tracing}
 use Rattle.generator_spec.specs.Asked.{IsConfigAt}
 use Rattle.generator_spec.specs.Commands.{Opens as opens}
-use Rattle.generator_spec.specs.Ending.{IsAsksLine, IsDone, IsDone as done, Says, Ends, EndsAs, Shaped as shaped, Says as says}
-use Rattle.generator_spec.specs.Ending.{TellsChain, TellsChain as chain}
+use Rattle.generator_spec.specs.Ending.{IsDone, IsDone as done, Says, Ends, EndsAs, Shaped as shaped, Says as says}
 use Rattle.generator_spec.specs.Explaining.{request_line, SaysWhy, SaysWhy as says_why}
 use Rattle.generator_spec.specs.Lines.{asks_line, from_page_line, not_reached_line}
 use Rattle.generator_spec.proofs.Endings.{one_line_text}
@@ -56,6 +54,7 @@ use Rattle.generator_core.specs.Explaining.{AreLive, specifiers_of, step_lines, 
 use Rattle.generator_core.specs.Explaining.{IsExplained, ExplainsFile}
 use Rattle.generator_core.proofs.Endings.{ends_as}
 use Rattle.generator_core.proofs.LoadedBy.{says_by_graph}
+use Rattle.generator_core.proofs.ToldChains.{tells_chain}
 use Rattle.generator_core.proofs.Preparings.{asks_few}
 
 -- ---- the project as it stands
@@ -185,18 +184,6 @@ module _ (path : List ℕ) (config : Config) (before after : FolderState) where
     pub no_report : ExplainsFile path config before (Err Memory) after
     no_report = record { explained = tt; asked = asks_few config before.holds [] before.asked after is.asked is.footprint; stopped = record { refused = tt; kind = tt; looks = looks_as before after (λ e. absurd (cc)) (λ e. absurd e) quiet_looks } }
 
-    -- whatever the graph is, its lines have the shape of a chain's
-    are_asks : (graph : List (Place vertex.Module)) (specifiers : List (List ℕ)) (steps : List (ℕ × Slot)) → All IsAsksLine (step_lines graph specifiers steps)
-    are_asks graph specifiers [] = All-nil IsAsksLine
-    are_asks graph specifiers (step ∷ more) =
-        All-cons IsAsksLine (request_line specifiers step.0 (module_in (value_at graph step.1))) (step_lines graph (source_in (value_at graph step.1)).specifiers more)
-        (record { specifier = unwrap_or (slice_get specifiers step.0) []; name = (module_in (value_at graph step.1)).path ++ (module_in (value_at graph step.1)).suffix; says = refl }) (are_asks graph (source_in (value_at graph step.1)).specifiers more)
-
-    shape : (links : Links) (status : ℕ) (lines : List (List ℕ)) → GraphSays links config path status lines → TellsChain config.page path status lines
-    shape links status lines (graph_says.own_page same s l) = chain.reached [] (All-nil IsAsksLine) s l
-    shape links status lines (graph_says.reached steps other answer s l) = chain.reached (step_lines links.graph config.entries steps) (are_asks links.graph config.entries steps) s l
-    shape links status lines (graph_says.not_reached other none s l) = chain.not_reached s l
-
     pub explains :
         Shows trace → IsLinked trace.links → AreModules trace.links.graph
         → length trace.links.roots ≡ length config.entries → (report : Report)
@@ -205,7 +192,7 @@ module _ (path : List ℕ) (config : Config) (before after : FolderState) where
       explained = record {
         lines = of.lines;
         text = of.text;
-        tells = shape trace.links report.status of.lines of.says;
+        tells = tells_chain trace.links config path roots report.status of.lines of.says;
         told = if_some before.holds (λ tree traces. record {
           all = trace.gathered;
           is_traced = traces;

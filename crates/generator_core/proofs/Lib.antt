@@ -7,6 +7,7 @@ pub mod Runs
 pub mod Listings
 pub mod MappedChains
 pub mod LoadedBy
+pub mod ToldChains
 pub mod Explainings
 pub mod Measurings
 pub mod HeldSessions

@@ -94,7 +94,7 @@ pub record IsExplained (path : List ℕ) (config : Config) (before after : Folde
     : Type 0 where
   pub lines : List (List ℕ)
   pub text : report.text.items ≡ concat lines
-  pub tells : TellsChain config.page path report.status lines
+  pub tells : TellsChain config path report.status lines
   pub told : IfSome before.holds (λ tree. IsToldWhy config tree path report.status lines)
   pub looks : OnlyLooks before after ⊥
 

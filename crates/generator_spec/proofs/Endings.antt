@@ -110,10 +110,11 @@ check_refusing [] = inl refl
 check_refusing (line ∷ more) = inr (six refl)
 
 chain_status :
-    (page path : List ℕ) (status : ℕ) (lines : List (List ℕ)) → TellsChain page path status lines
+    (config : Config) (path : List ℕ) (status : ℕ) (lines : List (List ℕ)) → TellsChain config path status lines
     → (status ≡ 0) ⊎ (status ≡ 10)
-chain_status page path status lines (chain.reached requests are s l) = inl s
-chain_status page path status lines (chain.not_reached s l) = inr s
+chain_status config path status lines (chain.own_page same s l) = inl s
+chain_status config path status lines (chain.reached requests other begins stops s l) = inl s
+chain_status config path status lines (chain.not_reached other s l) = inr s
 
 shaped_status :
     (words : List (List ℕ)) (status : ℕ) (lines : List (List ℕ)) → Shaped words status lines
@@ -125,7 +126,7 @@ shaped_status words status lines (shaped.checked is) =
     subst (λ n. (n ≡ 0) ⊎ IsRefusing n) (sym is.ends) (check_refusing is.differing)
 shaped_status words status lines (shaped.listed is) = inl is.ends
 shaped_status words status lines (shaped.explained is) =
-    ⊎_elim inl (λ e. inr (ten e)) (chain_status is.config.page is.path status lines is.tells)
+    ⊎_elim inl (λ e. inr (ten e)) (chain_status is.config is.path status lines is.tells)
 shaped_status words status lines (shaped.measured is) = inl is.ends
 
 refusal_status : (status : ℕ) → IsRefusing status → LeavesTree status
@@ -243,7 +244,7 @@ module _ (words : List (List ℕ)) (before after : FolderState) (status : ℕ) (
   shaped_two (shaped.checked is) is_two = absurd (check_not_two is.differing (sym is.ends ∙ is_two))
   shaped_two (shaped.listed is) is_two = let zero = is.ends in absurd (omega (arith, zero, is_two))
   shaped_two (shaped.explained is) is_two =
-      absurd (⊎_elim (λ e. omega (arith, e, is_two)) (λ e. omega (arith, e, is_two)) (chain_status is.config.page is.path status lines is.tells))
+      absurd (⊎_elim (λ e. omega (arith, e, is_two)) (λ e. omega (arith, e, is_two)) (chain_status is.config is.path status lines is.tells))
   shaped_two (shaped.measured is) is_two = let zero = is.ends in absurd (omega (arith, zero, is_two))
 
   said_two : Says words before after status lines → status ≡ 2 → AreWrong words

@@ -10,6 +10,7 @@ use Rattle.page_spec.specs.declared.kinds.InjectFault.TheVariants.{PageUnclear, 
 use Rattle.page_spec.specs.declared.kinds.InjectFault.TheVariants as page
 use Rattle.trace_spec.specs.declared.TraceFault.{TraceFault}
 use Rattle.trace_spec.specs.declared.TraceFault.TheVariants as fault
+use Rattle.trace_spec.specs.Modules.{Config}
 use Rattle.config_spec.specs.declared.ConfigFault.{ConfigFault}
 use Rattle.config_spec.specs.declared.ConfigFault.TheVariants as config
 use Rattle.config_spec.specs.declared.ProjectFault.{ProjectFault}
@@ -168,9 +169,11 @@ module _ (words : List (List ℕ)) (before after : FolderState) (status : ℕ) (
       ⊎_elim (λ zero. inr (done (is.ends ∙ zero))) (λ another. inl (subst (λ all. IsAnother (concat all)) (sym is.says) another))
       (checked_text is.differing is.needs is.are_differences)
 
-  explained_line : (page path : List ℕ) → TellsChain page path status lines → IsAnother (concat lines) ⊎ WasDone
-  explained_line page path (chain.reached requests are s l) = inr (done s)
-  explained_line page path (chain.not_reached s l) =
+  explained_line :
+      (own : Config) (path : List ℕ) → TellsChain own path status lines → IsAnother (concat lines) ⊎ WasDone
+  explained_line own path (chain.own_page same s l) = inr (done s)
+  explained_line own path (chain.reached requests other begins stops s l) = inr (done s)
+  explained_line own path (chain.not_reached other s l) =
       inl (other_text (not_reached_line path) lines l (other_line 110 (not_reached_line path) refl (λ e. omega arith)))
 
   shaped_line : IsPlain words → Shaped words status lines → IsAnother (concat lines) ⊎ WasDone
@@ -179,7 +182,7 @@ module _ (words : List (List ℕ)) (before after : FolderState) (status : ℕ) (
   shaped_line plain (shaped.done line s l counted) = inr (done s)
   shaped_line plain (shaped.checked is) = checked_line is
   shaped_line plain (shaped.listed is) = inr (done is.ends)
-  shaped_line plain (shaped.explained is) = explained_line is.config.page is.path is.tells
+  shaped_line plain (shaped.explained is) = explained_line is.config is.path is.tells
   shaped_line plain (shaped.measured is) = inr (done is.ends)
 
   said_line : IsPlain words → Says words before after status lines → IsAnother (concat lines) ⊎ WasDone

@@ -11,7 +11,7 @@
 --     TellsRefusal why out out_after result     the same of a refusal, or of want of memory in its place
 use Rattle.std.specs.Prelude.{◌≡◌, ◌≢◌, ◌≤◌, ◌<◌, ◌⊎◌, ◌++◌, ℕ, List, [], ◌∷◌, length, All, Contains}
 use Rattle.std.specs.Prelude.{Option, Some, None, IfSome, Ok}
-use Rattle.std.specs.Prelude.{option_map, take}
+use Rattle.std.specs.Prelude.{map, option_map, take}
 use Rattle.std.specs.FinMap.{get}
 use Rattle.std.specs.List.{concat}
 use Rattle.tree_spec.specs.Counts.{Rose}
@@ -178,18 +178,34 @@ pub record IsListing (words : List (List ℕ)) (status : ℕ) (lines : List (Lis
   pub are_modules : All IsModuleLine lines
   pub ends : status ≡ done_status
 
--- own: some request leads to some module
-pub record IsAsksLine (line : List ℕ) : Type 0 where
-  pub specifier : List ℕ
-  pub name : List ℕ
-  pub says : line ≡ asks_line specifier name
+-- own: requests as they are told: how each is spelled, and path and suffix of the module that it leads to
+abbrev pub asks_lines : List (List ℕ × List ℕ) → List (List ℕ)
+asks_lines requests = map (λ request. asks_line request.0 request.1) requests
 
--- own: the page and some requests, or that none lead there
-pub data TellsChain (page path : List ℕ) (status : ℕ) (lines : List (List ℕ)) : Type 0 where
+-- own: the first of them is for an entry
+abbrev pub BeginsAt : List (List ℕ) → List (List ℕ × List ℕ) → Type 0
+BeginsAt entries [] = ⊥
+BeginsAt entries (request ∷ more) = Contains entries request.0
+
+-- own: the last of them leads to a module at this path, with any suffix
+abbrev pub StopsAt : List ℕ → List (List ℕ × List ℕ) → Type 0
+StopsAt path [] = ⊥
+StopsAt path (request ∷ []) = (suffix : List ℕ) × (request.1 ≡ path ++ suffix)
+StopsAt path (request ∷ next ∷ more) = StopsAt path (next ∷ more)
+
+-- own: the page alone, where the path is its own; else the page and some requests, from an entry to the path, or that
+-- none lead there
+pub data TellsChain (config : Config) (path : List ℕ) (status : ℕ) (lines : List (List ℕ)) : Type 0 where
+  own_page :
+      path ≡ config.page → status ≡ done_status → lines ≡ from_page_line config.page ∷ []
+      → TellsChain config path status lines
   reached :
-      (requests : List (List ℕ)) → All IsAsksLine requests → status ≡ done_status
-      → lines ≡ from_page_line page ∷ requests → TellsChain page path status lines
-  not_reached : status ≡ not_reached_status → lines ≡ not_reached_line path ∷ [] → TellsChain page path status lines
+      (requests : List (List ℕ × List ℕ)) → path ≢ config.page → BeginsAt config.entries requests
+      → StopsAt path requests → status ≡ done_status
+      → lines ≡ from_page_line config.page ∷ asks_lines requests → TellsChain config path status lines
+  not_reached :
+      path ≢ config.page → status ≡ not_reached_status → lines ≡ not_reached_line path ∷ []
+      → TellsChain config path status lines
 
 -- own: the words ask why a file is loaded and can have this config, and the lines are those of some chain, or of none
 pub record IsExplanation (words : List (List ℕ)) (status : ℕ) (lines : List (List ℕ)) : Type 0 where
@@ -197,7 +213,7 @@ pub record IsExplanation (words : List (List ℕ)) (status : ℕ) (lines : List 
   pub asks : AsksWhy words path
   pub config : Config
   pub is_config : IsConfigFor words Why config
-  pub tells : TellsChain config.page path status lines
+  pub tells : TellsChain config path status lines
 
 -- own: the line is that of a measure of as many packages as the words ask for, with some counts
 pub record IsMeasuring (words : List (List ℕ)) (status : ℕ) (lines : List (List ℕ)) : Type 0 where
