@@ -80,7 +80,7 @@ pub record IsReportBy (trace : Traced) (config : Config) (path : List ℕ) (repo
   pub shows : Shows trace
   pub linked : IsLinked trace.links
   pub modules : AreModules trace.links.graph
-  pub report : IsReportOf trace.links config path report
+  pub says : IsReportOf trace.links config path report
 
 -- ---- by the tree
 

@@ -189,7 +189,7 @@ fn asked_at<'a>(trace: &'a Trace, slot: Slot, number: usize) -> &'a str
 }
 
 fn or_empty(text: Option<&str>) -> &str
-    ensures { result.now ≡ unwrap_or (option_copied text) [] }
+    ensures { result.now ≡ unwrap_or (option_copied text.entry) [] }
 {
     match text {
         None => "",

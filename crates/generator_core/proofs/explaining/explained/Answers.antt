@@ -22,4 +22,4 @@ returns-in-Ok-reported-clause-explains g c =
     let before = g.F.Folder.state c.args.folder.now in
     let after = g.F.Folder.state c.traced.new.folder in
     explains c.args.path.now c.args.config.now before after c.in-Ok.trace (subst (λ (r : Result Traced Stop). Tracing c.args.config.now before (gathered_of r) after) c.in-Ok.is c.traced.ensures.traces)
-    c.in-Ok-reported.ensures.shows c.in-Ok-reported.ensures.linked c.in-Ok-reported.ensures.modules c.in-Ok.ensures.entries c.in-Ok-reported.report c.in-Ok-reported.ensures.report
+    c.in-Ok-reported.ensures.shows c.in-Ok-reported.ensures.linked c.in-Ok-reported.ensures.modules c.in-Ok.ensures.entries c.in-Ok-reported.report c.in-Ok-reported.ensures.says

@@ -24,7 +24,7 @@ returns-then-eq c =
       shows = c.view-graph.ensures.shows;
       linked = c.view-graph.ensures.linked;
       modules = c.view-graph.ensures.modules;
-      report = own_reported c.args.trace.now.links c.args.config.now c.args.path.now report own is.0 (rw c.page-page.ensures.page at is.1);
+      says = own_reported c.args.trace.now.links c.args.config.now c.args.path.now report own is.0 (rw c.page-page.ensures.page at is.1);
     })
     c.page_report.ensures
 
@@ -37,7 +37,7 @@ returns-in-None c =
       shows = c.view-graph.ensures.shows;
       linked = c.view-graph.ensures.linked;
       modules = c.view-graph.ensures.modules;
-      report = lost_reported c.args.trace.now.links c.args.config.now c.args.path.now report other
+      says = lost_reported c.args.trace.now.links c.args.config.now c.args.path.now report other
           (rw (c.view-graph.ensures.graph, c.roots.ensures) at (subst (Answers c.view-graph.result c.roots.result.now c.args.path.now) c.in-None.is c.in_ok-chain.ensures)) is.0 is.1;
     })
     c.lost_report.ensures
@@ -51,7 +51,7 @@ returns-in-Some c =
       shows = c.view-graph.ensures.shows;
       linked = c.view-graph.ensures.linked;
       modules = c.view-graph.ensures.modules;
-      report = chain_reported c.args.trace.now.links c.args.config.now c.args.path.now report other c.in-Some.found
+      says = chain_reported c.args.trace.now.links c.args.config.now c.args.path.now report other c.in-Some.found
           (rw (c.view-graph.ensures.graph, c.roots.ensures) at (subst (Answers c.view-graph.result c.roots.result.now c.args.path.now) c.in-Some.is c.in_ok-chain.ensures)) is.0 is.1;
     })
     c.chain_report.ensures
