@@ -100,6 +100,8 @@ impl Graph {
         ensures graph { result ≡ self.now }
         ensures modules { AreModules self.now }
     {
+        // What is known of a graph is known where a field is used.
+        let _ = &self.alloc;
         View::of(self)
     }
 
