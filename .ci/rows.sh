@@ -414,7 +414,13 @@ says plain 2 'words: no base' '' link ./app.mjs
 says plain 2 'words: BadBase "ftp://h/"' '' link --base ftp://h/ x
 says plain 2 'words: BadPath "/"' '' link --page / --base https://app.test/ x
 says plain 2 'words: BadConditions "a,a"' '' link --conditions=a,a x
-says plain 2 'words: not plain' '' link ./app.mjs --base https://app.test/
+says plain 2 'words: not plain' 'salimgub: an option stands behind an entry: "--base"' link ./app.mjs --base https://app.test/
+says plain 2 'words: not plain' 'salimgub: an entry is empty: ""' link ./app.mjs ''
+says plain 2 'words: not plain' 'salimgub: an entry begins with a hyphen: "-"' link -
+says plain 2 'words: not plain' 'salimgub: this word has no meaning: "--"' link -- x
+says plain 2 'words: not plain' 'salimgub: the value of an option is empty: "--base="' link --base= x
+says plain 2 'words: not plain' 'salimgub: the value of an option begins with a hyphen: "--page=-p"' link --page=-p x
+says plain 2 'words: not plain' 'salimgub: no number from 1 to 2000 without leading zeros: "007"' measure 007
 says plain 0 'measure 3: 8 modules, 12 requests, 5 mappings' '' measure 3
 says plain 2 'words: BadPath "app.mjs"' '' why app.mjs
 for command in refresh check inject list session 'why /app.mjs' 'unlink x'; do

@@ -1,19 +1,23 @@
 //! The program: it makes the folder, the streams, the counter and the words, and leaves every decision to `run`, but
-//! the one where there is no memory for the words. On standard error it tells what failed on the disk, and why.
+//! the one where there is no memory for the words. On standard error it tells what failed on the disk, and why, and what is
+//! wrong with words that aren't plain.
 #![tactic(auto)]
 
 ghost use Rattle.std.specs.Prelude.{◌≡◌, ◌<◌, ℕ};
 
+mod unplain;
+
 use disk_devices::{DiskFolder, StdSink, StdSource};
 use generator_core::run;
 use primitives::Steps;
-use run_texts::{MEMORY, WRITE_FAULT, memory_line};
+use run_texts::{BAD_WORDS, MEMORY, WRITE_FAULT, memory_line};
 use std::marker::Brand;
 use std::process::ExitCode;
 use std::rt::Runtime;
 use std::sync::ledger::{Blank, Ledger};
 use std::{env, io};
 use tree_model::Sink;
+use unplain::why_not_plain;
 
 /// The words after the program's name.
 fn words_of<R: Runtime + AllocGlobal>(rt: &R) -> io::Result<Vec<String>> {
@@ -43,6 +47,11 @@ fn start<R: Runtime + AllocGlobal, L: Ledger>(rt: &R, words: &[String], blank: B
     if let Some(trouble) = folder.trouble() {
         // The status tells of the fault also where nothing can be said of it.
         let _ = eprintln!(rt; "salimgub: {trouble}");
+    }
+    if status == BAD_WORDS
+        && let Some((what, word)) = why_not_plain(rt.alloc(), words)
+    {
+        let _ = eprintln!(rt; "salimgub: {what}: {word:?}");
     }
     status
 }
