@@ -208,14 +208,14 @@ kept_at {text} {bytes} {spots} of b e =
 pub kept_slice : {text : List ℕ} {spots slice : List Spot} → SpotsOf text spots → slice ≡ spots → AreKept text slice
 kept_slice {text} of e = subst (λ z. AreKept text z) (sym e) (record { within = of.are.kept; cut = of.are.cut })
 
-pub says_all : {E : Type 0} (text bytes : List ℕ) (spots slice later : List Spot) (outline : Outline)
+pub says_all : {E : Type 0} (text bytes : List ℕ) (spots slice : List Spot) (outline : Outline)
     (asked items : List ℕ) (told : End) (tokens : List Sight) (r : Result Strict E) → SpotsOf text spots → bytes ≡ text → slice ≡ spots
-    → later ≡ spots → tokens ≡ map (sight_of bytes) slice → TellsOf tokens told items → asked ≡ items
-    → IfOk r (λ a. AnswersTo text later outline asked told a) → IfOk r (λ a. SaysOf text outline a)
-says_all text bytes spots slice later outline asked items told tokens r of b s l e t q h =
+    → tokens ≡ map (sight_of bytes) slice → TellsOf tokens told items → asked ≡ items
+    → IfOk r (λ a. AnswersTo text slice outline asked told a) → IfOk r (λ a. SaysOf text outline a)
+says_all text bytes spots slice outline asked items told tokens r of b s e t q h =
     says_on text spots outline items told r tokens
     (e ∙ (ap (λ z. map (sight_of z) slice) b ∙ ap (map (sight_of text)) s)) of t
-    (subst (λ z. IfOk r (λ a. AnswersTo text z outline items told a)) l
-    (subst (λ z. IfOk r (λ a. AnswersTo text later outline z told a)) q h))
+    (subst (λ z. IfOk r (λ a. AnswersTo text z outline items told a)) s
+    (subst (λ z. IfOk r (λ a. AnswersTo text slice outline z told a)) q h))
 
 pub ruleset saying = (says_all, kept_at, kept_slice)

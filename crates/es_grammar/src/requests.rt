@@ -27,10 +27,10 @@ fn request_of(alloc: Global, text: &str, spot: Spot) -> Result<Request, Memory>
     requires cut { IsCut text.now spot }
     ensures { IfOk result (λ request. request ≡ request_of (sight_of text.now spot)) }
 {
-    let value = string_value(alloc, &text[spot.from..spot.to])?;
+    let value = string_value(alloc, &text[spot.from as usize..spot.to as usize])?;
     Ok(Request {
-        from: spot.from,
-        to: spot.to,
+        from: spot.from as usize,
+        to: spot.to as usize,
         text: or_nothing(alloc, value),
     })
 }

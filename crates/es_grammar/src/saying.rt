@@ -36,7 +36,7 @@ fn place_of(text: &str, spots: &[Spot], at: usize) -> usize
 {
     match spots.get(at) {
         None => text.len(),
-        Some(spot) => spot.from,
+        Some(spot) => spot.from as usize,
     }
 }
 
@@ -87,15 +87,9 @@ pub fn strict(alloc: Global, text: &str, outline: &Outline) -> Result<Strict, Me
     requires { ReadsOutline text.now (Ok (as_outline outline.now)) }
     ensures { IfOk result (λ answer. SaysOf text.now (as_outline outline.now) answer) }
 {
-    let spots = tokens_of(alloc, text)?;
-    let tokens = Tokens::of(text.as_bytes(), spots.as_slice());
+    let kept = tokens_of(alloc, text)?;
+    let spots = kept.as_slice();
+    let tokens = Tokens::of(alloc, text.as_bytes(), spots)?;
     let (told, asked) = read(alloc, &tokens)?;
-    answer(
-        alloc,
-        text,
-        spots.as_slice(),
-        told,
-        asked.as_slice(),
-        outline,
-    )
+    answer(alloc, text, spots, told, asked.as_slice(), outline)
 }

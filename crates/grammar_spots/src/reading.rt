@@ -32,7 +32,8 @@ fn between(bytes: &[u8], from: usize, to: usize) -> &[u8]
     bytes.get(from..to).unwrap_or(b"".as_slice())
 }
 
-/// What is kept of each token of the text, in their order, or the text's first fault.
+/// What is kept of each token of the text, in their order, or the text's first fault. For a text above 4 GiB there is
+/// no room.
 pub fn spots_of(alloc: Global, text: &str) -> Result<Listed<Spot>, TokensFault>
     ensures spots { IfOk result (λ spots. SpotsOf text.now spots) }
     ensures fault { IfErr result (λ e. (fault : LexFault) → e ≡ TokensFault.Lexical fault
@@ -49,7 +50,8 @@ pub fn spots_of(alloc: Global, text: &str) -> Result<Listed<Spot>, TokensFault>
             Ok(None) => return Ok(spots),
             Ok(Some(token)) => {
                 let line = has_line_end(between(bytes, end, token.from));
-                spots.push(spot_of(bytes, token, line, depth, lexer.depth()))?;
+                let spot = spot_of(bytes, token, line, depth, lexer.depth())?;
+                spots.push(spot)?;
                 end = token.to;
             }
         }

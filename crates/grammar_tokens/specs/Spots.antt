@@ -2,10 +2,12 @@
 --     sight_of text spot      the token that is kept so, in this text
 --     Agrees spot t           what is kept of it says what the grammar says
 --     IsSpot text spot        it stands in the text, and agrees
---     behind_at depth tokens at      whether so many brackets are open behind the token with that number
-use Rattle.std.specs.Prelude.{◌≡◌, ◌≤◌, ◌==◌, ℕ, Bool, List, [], ◌∷◌, Option, codes, length, option_map, slice_range}
-use Rattle.std.specs.List.{slice_get}
-use Rattle.grammar_spec.specs.Sights.{Sight, is_ident, is_any_of, assignment_operators, operators, is_closing}
+--     arrows_behind tokens    for each token, whether an arrow stands behind what it opens
+--     AreUnset count signs      there are so many, and none of them is set
+--     AreTokens text spots arrows      the spots stand in the text, and these are their arrows, the last one first
+use Rattle.std.specs.Prelude.{◌≡◌, ◌≤◌, ℕ, Bool, false, List, [], ◌∷◌, All, codes, length, map, reverse, slice_range}
+use Rattle.std.specs.Prelude.{slice_index_or}
+use Rattle.grammar_spec.specs.Sights.{Sight, is_ident, is_any_of, assignment_operators, operators, is_closing, sign_behind}
 use Rattle.grammar_tokens.specs.declared.spot.Spot.{Spot}
 
 -- behind a word that changes what follows it, one of these says that it is a key itself
@@ -44,6 +46,20 @@ pub record IsSpot (text : List ℕ) (s : Spot) : Type 0 where
   pub ends : s.to ≤ length text
   pub says : Agrees s (sight_of text s)
 
--- whether so many brackets are open behind the token with that number, where there is one
-abbrev pub behind_at : ℕ → List Sight → ℕ → Option Bool
-behind_at depth tokens at = option_map (λ (t : Sight). t.behind == depth) (slice_get tokens at)
+-- for each token, whether the arrow sign stands behind the next one that leaves as many brackets open as are open
+-- before it: for a round bracket that opens, that is its partner
+abbrev pub arrows_behind : List Sight → List Bool
+arrows_behind [] = []
+arrows_behind (t ∷ rest) = sign_behind t.depth rest ∷ arrows_behind rest
+
+-- the same of the token with that number
+abbrev pub arrow_at : List Sight → ℕ → Bool
+arrow_at tokens at = slice_index_or (arrows_behind tokens) at false
+
+pub record AreTokens (text : List ℕ) (spots : List Spot) (arrows : List Bool) : Type 0 where
+  pub within : All (IsSpot text) spots
+  pub told : arrows ≡ reverse (arrows_behind (map (sight_of text) spots))
+
+pub record AreUnset (count : ℕ) (signs : List Bool) : Type 0 where
+  pub size : length signs ≡ count
+  pub unset : (at : ℕ) → slice_index_or signs at false ≡ false

@@ -3,7 +3,7 @@ ghost use Rattle.std.specs.Bool.{OnTrue};
 ghost use Rattle.std.specs.List.{slice_get};
 ghost use Rattle.module_spec.specs.declared.token.Kind.TheVariants as kind;
 ghost use Rattle.grammar_spec.specs.Sights.{is_quoted, passes, holds, at_place, is_kind, is_word, is_operator};
-ghost use Rattle.grammar_spec.specs.Sights.{is_any_of, is_arrow, sign_behind, sign_behind_round, on_line, is_closing};
+ghost use Rattle.grammar_spec.specs.Sights.{is_any_of, is_arrow, sign_behind_round, on_line, is_closing};
 ghost use Rattle.grammar_tokens.specs.Spots.{key_ends, short_ends};
 ghost use Rattle.grammar_spec.specs.declared.names.Guard.TheVariants as guard;
 
@@ -18,24 +18,6 @@ impl<'t> Tokens<'t> {
         ensures { result ≡ at_place (on_line (is_word word.now)) self.now at }
     {
         self.quoted(word, at) && !self.line(at)
-    }
-
-    // `=>` stands on its line behind the first token from there on behind which so many brackets are open.
-    fn sign_behind(&self, depth: usize, from: usize) -> bool
-        ensures { result ≡ sign_behind depth (drop from self.now) }
-    {
-        let mut at = from;
-        'scan: loop {
-            match self.is_depth_behind(depth, at) {
-                None => return false,
-                Some(is) => {
-                    if is {
-                        return self.on_line(b"=>", at + 1);
-                    }
-                    at += 1;
-                }
-            }
-        }
     }
 
     // The name or punctuator stands behind the token there.
@@ -105,18 +87,11 @@ impl<'t> Tokens<'t> {
     }
 
     // `(` stands there, and `=>` behind its partner and on its line.
+    #[tactic(auto, using(crate::proofs::Places::round_at))]
     fn is_round_arrow(&self, at: usize) -> bool
         ensures { result ≡ sign_behind_round self.now (slice_get self.now at) (drop (suc at) self.now) }
     {
-        match self.depth(at) {
-            None => false,
-            Some(depth) => {
-                if !self.quoted(b"(", at) {
-                    return false;
-                }
-                self.sign_behind(depth, at + 1)
-            }
-        }
+        self.quoted(b"(", at) && self.has_arrow(at)
     }
 
     fn is_arrow(&self, at: usize) -> bool

@@ -2,6 +2,7 @@
 //! [`Tokens::passes`] and [`Tokens::holds`] answer as the grammar's tests and guards do.
 #![tactic(auto)]
 
+mod arrows;
 mod guards;
 mod spot;
 mod tokens;

@@ -1,12 +1,15 @@
-ghost use Rattle.std.specs.Prelude.{◌≡◌, ◌<◌, ◌≤◌, ◌+◌, ◌^◌, IfSome, MatchOption, All, length, map, not, suc, true};
+ghost use Rattle.std.specs.Prelude.{◌≡◌, ◌<◌, ◌≤◌, ◌+◌, ◌^◌, All, IfOk, MatchOption, length, map, not, suc, true};
 ghost use Rattle.std.specs.Bool.{OnTrue};
 ghost use Rattle.module_spec.specs.declared.token.Kind.TheVariants as kind;
 ghost use Rattle.grammar_spec.specs.Sights.{is_quoted, at_place, is_kind, depth_at, code_of, is_ident};
 ghost use Rattle.grammar_spec.specs.Sights.{is_any_of, assignment_operators, is_closing, operators, outside};
-ghost use Rattle.grammar_tokens.specs.Spots.{IsSpot, behind_at, sight_of, key_ends, short_ends};
+ghost use Rattle.grammar_tokens.specs.Spots.{IsSpot, arrow_at, sight_of, key_ends, short_ends};
 
+use crate::arrows::{arrows_of, is_word};
 use crate::spot::Spot;
 use module_spec::Kind;
+use primitives::Memory;
+use std::alloc::Global;
 use std::marker::Model;
 
 /// The tokens of a text. A contract sees them as the grammar does.
@@ -14,18 +17,19 @@ use std::marker::Model;
 pub struct Tokens<'t> {
     text: &'t [u8],
     spots: &'t [Spot],
+    arrows: Vec<bool>,
 }
 
 impl<'t> Model for Tokens<'t> {
-    ghost use Rattle.std.specs.Prelude.{List, All, map};
+    ghost use Rattle.std.specs.Prelude.{List, map};
     ghost use Rattle.grammar_spec.specs.Sights.{Sight};
-    ghost use Rattle.grammar_tokens.specs.Spots.{sight_of, IsSpot};
+    ghost use Rattle.grammar_tokens.specs.Spots.{sight_of, AreTokens};
 
     ghost Value = { List Sight };
 
     ghost view = { λ t. map (sight_of t.text.now) t.spots.now };
 
-    ghost invariant = { λ t. All (IsSpot t.text.now) t.spots.now };
+    ghost invariant = { λ t. AreTokens t.text.now t.spots.now t.arrows.items };
 }
 
 pub(crate) fn code_of(kind: Kind) -> u8
@@ -47,11 +51,16 @@ pub(crate) fn code_of(kind: Kind) -> u8
 
 impl<'t> Tokens<'t> {
     /// The tokens that are kept so, of this text.
-    pub fn of(text: &'t [u8], spots: &'t [Spot]) -> Tokens<'t>
+    pub fn of(alloc: Global, text: &'t [u8], spots: &'t [Spot]) -> Result<Tokens<'t>, Memory>
         requires { All (IsSpot text.now) spots.now }
-        ensures { result ≡ map (sight_of text.now) spots.now }
+        ensures { IfOk result (λ tokens. tokens ≡ map (sight_of text.now) spots.now) }
     {
-        Tokens { text, spots }
+        let arrows = arrows_of(alloc, text, spots)?;
+        Ok(Tokens {
+            text,
+            spots,
+            arrows,
+        })
     }
 
     /// The number of brackets that are open before the token.
@@ -60,7 +69,7 @@ impl<'t> Tokens<'t> {
     {
         match self.spots.get(at) {
             None => None,
-            Some(spot) => Some(spot.depth),
+            Some(spot) => Some(spot.depth as usize),
         }
     }
 
@@ -82,10 +91,7 @@ impl<'t> Tokens<'t> {
     {
         match self.spots.get(at) {
             None => false,
-            Some(spot) => {
-                let code = code_of(spot.kind);
-                (code == 0 || code == 9) && &self.text[spot.from..spot.to] == word
-            }
+            Some(spot) => is_word(self.text, *spot, word),
         }
     }
 
@@ -172,14 +178,16 @@ impl<'t> Tokens<'t> {
         }
     }
 
-    // Whether so many brackets are open behind the token there.
-    pub(crate) fn is_depth_behind(&self, depth: usize, at: usize) -> Option<bool>
-        ensures is { result ≡ behind_at depth self.now at }
-        ensures within { IfSome result (λ is. at + 1 < 2 ^ 64) }
+    // Whether `=>` stands on the line of the next token that leaves as many brackets open as are open before the token
+    // there, and behind it.
+    #[tactic(auto, using(crate::proofs::Passing::arrow_there, crate::proofs::Passing::arrow_past))]
+    pub(crate) fn has_arrow(&self, at: usize) -> bool
+        ensures { result ≡ arrow_at self.now at }
     {
-        match self.spots.get(at) {
-            None => None,
-            Some(spot) => Some(spot.behind == depth),
+        if at < self.arrows.len() {
+            self.arrows[self.arrows.len() - 1 - at]
+        } else {
+            false
         }
     }
 
@@ -201,7 +209,7 @@ impl<'t> Tokens<'t> {
             None => false,
             Some(spot) => match head {
                 None => false,
-                Some(depth) => spot.depth == depth,
+                Some(depth) => spot.depth as usize == depth,
             },
         }
     }

@@ -9,6 +9,7 @@ mod json_texts;
 mod maps;
 mod outlines;
 mod pages;
+mod strict;
 mod texts;
 mod tokens;
 mod urls;

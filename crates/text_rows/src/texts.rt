@@ -6,6 +6,7 @@ use crate::json_texts::tell_value;
 use crate::maps::{tell_map, tell_through};
 use crate::outlines::tell_outline;
 use crate::pages::{tell_attribute, tell_injected, tell_pieces};
+use crate::strict::tell_strict;
 use crate::tokens::tell_tokens;
 use crate::urls::tell_url;
 use primitives::Steps;
@@ -37,6 +38,7 @@ impl<L: Ledger> Texts<L> {
             "attribute" => tell_attribute(question.rest, text, said),
             "outline" => tell_outline(alloc, text, &mut self.steps, said),
             "pieces" => tell_pieces(text, said),
+            "strict" => tell_strict(alloc, text, &mut self.steps, said),
             "through" => tell_through(alloc, question, text, said),
             "tokens" => tell_tokens(alloc, text, said),
             "url" => tell_url(alloc, question.rest, text, said),

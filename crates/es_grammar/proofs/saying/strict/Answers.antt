@@ -4,7 +4,7 @@ use Rattle.es_grammar.proofs.saying.strict.Goals as goal
 
 pub returns : goal.returns
 returns c =
-    says_all c.args.text.now c.as_bytes.result.now c.in_ok-spots.spots c.as_slice.result.now c.as_slice-2.result.now
-    (as_outline c.args.outline.now) c.as_slice-3.result.now c.in_ok-told.asked.items c.in_ok-told.told c.of-tokens.result
-    c.answer.result c.in_ok-spots.ensures c.as_bytes.ensures.value c.as_slice.ensures c.as_slice-2.ensures
-    c.of-tokens.ensures c.in_ok-told.ensures c.as_slice-3.ensures.value c.answer.ensures
+    says_all c.args.text.now c.as_bytes.result.now c.in_ok-kept.kept c.as_slice-spots.result.now
+    (as_outline c.args.outline.now) c.as_slice.result.now c.in_ok-told.asked.items c.in_ok-told.told c.in_ok-tokens.tokens
+    c.answer.result c.in_ok-kept.ensures c.as_bytes.ensures.value c.as_slice-spots.ensures
+    c.in_ok-tokens.ensures c.in_ok-told.ensures c.as_slice.ensures.value c.answer.ensures

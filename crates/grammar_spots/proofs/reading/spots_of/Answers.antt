@@ -27,7 +27,7 @@ read-smaller c =
 pub read-preserved : goal.read-preserved
 read-preserved c =
     let now = said (Ok (Some c.in-Ok-Some.token)) c.next.new.self.1 c.read.invariant (rw c.in-Ok-Some.field-0-is at c.in-Ok-Some.ensures.next) in
-    one_more_kept c.next.new.self c.push.new.self c.in-Ok-Some.token c.spot_of.result c.has_line_end-line.result
+    one_more_kept c.next.new.self c.push.new.self c.in-Ok-Some.token c.in_ok-spot-in-Ok-Some.spot c.has_line_end-line.result
     c.depth-depth.result c.depth.result c.read.invariant c.in-Ok-Some.ensures.text now
     (rw c.in-Ok-Some.field-0-is at c.in-Ok-Some.ensures.span)
     (c.has_line_end-line.ensures
@@ -35,5 +35,5 @@ read-preserved c =
     ∙ ap (λ (b : List ℕ). has_line_end (slice_range b c.read.end c.in-Ok-Some.token.from)) c.as_bytes-bytes.ensures.value))
     (open_before c.depth-depth.result c.read.invariant c.depth-depth.ensures)
     (open_behind c.next.new.self c.depth.result c.in-Ok-Some.token c.read.invariant c.in-Ok-Some.ensures.text now c.depth.ensures)
-    (subst (λ b. IsSpotOf b c.in-Ok-Some.token c.has_line_end-line.result c.depth-depth.result c.depth.result c.spot_of.result) c.as_bytes-bytes.ensures.value c.spot_of.ensures)
+    (subst (λ b. IsSpotOf b c.in-Ok-Some.token c.has_line_end-line.result c.depth-depth.result c.depth.result c.in_ok-spot-in-Ok-Some.spot) c.as_bytes-bytes.ensures.value c.in_ok-spot-in-Ok-Some.ensures)
     c.in_ok-push-in-Ok-Some.ensures
