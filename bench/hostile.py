@@ -1,8 +1,8 @@
 """Measures build/salimgub on input that is made to be slow: maps, pages, modules, package.json files, projects and sessions of 16
 MiB, alone and together, and says PASS where it is done within ten seconds. Status and line are checked as well.
 
-`python3 -B bench/hostile.py [WORD]..` runs the cases whose names hold one of the words. A run that takes longer than `PATIENCE` is
-stopped, and may use no more than `ROOM` of memory.
+`python3 -B bench/hostile.py [MIB] [WORD]..` takes input of another size, and runs the cases whose names hold one of the words. A
+run that takes more than `PATIENCE` seconds of processor time is stopped, and may use no more than `ROOM` of memory.
 """
 
 import json
@@ -12,7 +12,6 @@ import shutil
 import subprocess
 import sys
 import tempfile
-import time
 
 import bench
 import maps
@@ -23,7 +22,7 @@ import tokens
 MIB = 1024 * 1024
 SIZE = 16 * MIB
 SECONDS = 10
-PATIENCE = 60
+PATIENCE = 30
 ROOM = 6 * 1024 * MIB
 LINK = ("link", "--base", maps.BASE, "./app.mjs")
 # The fronts of a text that HTML tries: one for each slash.
@@ -117,7 +116,7 @@ def versions_of_queries(count):
 def package(exports, specifier, line, status=0, most=1, files=()):
     """A package with these exports, and a module that asks for so many of its parts."""
     def case(folder, size):
-        put(folder, "app.mjs", requests(SIZE, specifier, most))
+        put(folder, "app.mjs", requests(size, specifier, most))
         put(folder, "node_modules/p/package.json", exports(size))
         for path in files:
             put(folder, f"node_modules/p/{path}", "")
@@ -201,11 +200,6 @@ def session_of(text, line, status=0):
     return case
 
 
-def one_edit(line):
-    """One edit of as many changes as fit."""
-    return lambda size: filled(size, "begin\n", "commit\nend\n", line, "\n") + ""
-
-
 def puts(size):
     return filled(size, "begin\n", "\ncommit\nend\n", lambda i: f"put /f{i} 0\n", "\n")
 
@@ -238,15 +232,15 @@ def fronts_map(size, keys):
 
 
 def map_and_modules(needs, keys):
-    """Needs of a module with a name of many slashes for others like it, by a map with a scope for each of its fronts."""
+    """Needs of a module whose name has thousands of slashes, as have those that it asks for, by a map with a scope for
+    each front of its name."""
     def case(folder, size):
-        name = "./b.mjs?" + "/" * SLASHES + "x"
-        put(folder, "app.mjs", f'import"{name}";')
-        # The module asks for itself under other queries, so all are referrers; one asks first, the others know the rest.
-        put(folder, "b.mjs", requests(size, slashes, needs))
+        put(folder, "app.mjs", f'import"./b.mjs?{"/" * SLASHES}x";')
+        put(folder, "b.mjs", requests(size, lambda i: slashes(i, path="./c.mjs"), needs))
+        put(folder, "c.mjs", "")
         put(folder, "importmap.json", fronts_map(min(size, SLASHES * (SLASHES // 2 + 60 + 12 * keys)), keys))
         project(folder)
-        return Case(("check",), None, None)
+        return Case(("check",), f"ok: {needs + 2} needs served")
     return case
 
 
@@ -257,6 +251,7 @@ CASES = {
                                                       'refused: NotFound from "/app.mjs"', 1),
     "module of long queries": long_queries,
     "module of long queries, above two versions": versions_of_queries(96),
+    "module of 4,096 long queries, above two versions": versions_of_queries(4096),
     **{f"module: {shape.__name__}": module_of(shaped(shape), None, None) for shape in tokens.HOSTILE + outline.HOSTILE},
     "package.json: patterns": package(patterns, lambda i: f"p/{'a' * 60}{i}x", "ok: 2 modules, 2 requests, 1 mappings",
                                       files=("x.mjs",)),
@@ -277,7 +272,7 @@ CASES = {
     "project: entries that are one": project_of(lambda size: project_text(filled(size - 200, "[", "]", lambda i: '"a"')),
                                                 "bad file: project at 0"),
     "project: long entries": project_of(lambda size: project_text(filled(size - 200, "[", "]",
-                                        lambda i: f'"./{"a" * 16000}{i}"')), "limit: specifier above 4096", 3),
+                                        lambda i: f'"./{"a" * 17000}{i}"')), "limit: specifier above 4096", 3),
     "project: conditions": project_of(lambda size: project_text(conditions=filled(size - 200, "[", "]", lambda i: f'"c{i}"')),
                                       "bad file: project at 0"),
     "project: a base": project_of(lambda size: project_text(base=maps.BASE + "a/" * (size // 2 - 100)),
@@ -303,36 +298,36 @@ CASES = {
     "together: patterns by 4,096 requests": package(patterns, lambda i: f"p/{'a' * 60}{i}x",
                                                     "ok: 2 modules, 4097 requests, 4096 mappings", most=4096,
                                                     files=("x.mjs",)),
-    "together: targets by 4,096 requests": package(many_targets, lambda i: f"p?{i}", None, None, most=4096,
+    "together: targets by 4,096 requests": package(many_targets, lambda i: "p",
+                                                   "ok: 2 modules, 4097 requests, 1 mappings", most=4096,
                                                    files=("x.mjs",)),
+    "together: conditions by 4,096 requests": package(many_conditions, lambda i: "p",
+                                                      "ok: 2 modules, 4097 requests, 1 mappings", most=4096,
+                                                      files=("x.mjs",)),
+    "together: keys by 4,096 requests": package(many_keys, lambda i: "p/x",
+                                                "ok: 2 modules, 4097 requests, 1 mappings", most=4096,
+                                                files=("x.mjs",)),
     "together: scopes of one key by 64 needs": map_and_modules(64, 1),
     "together: scopes of one key by 4,096 needs": map_and_modules(4096, 1),
 }
 
 
+def confined():
+    resource.setrlimit(resource.RLIMIT_AS, (ROOM, ROOM))
+    resource.setrlimit(resource.RLIMIT_CPU, (PATIENCE, PATIENCE))
+
+
 class Ran:
-    """The outcome of a run, or None of it where it took too long."""
+    """The outcome of a run."""
 
     def __init__(self, folder, case):
-        stdin = open(os.path.join(folder, case.stdin), "rb") if case.stdin else subprocess.DEVNULL
         out = os.path.join(folder, "..", "out")
-        started = time.perf_counter()
-        with open(out, "wb") as said:
+        with open(os.path.join(folder, case.stdin) if case.stdin else os.devnull, "rb") as stdin, open(out, "wb") as said:
             child = subprocess.Popen([bench.PROGRAM, *case.words], cwd=folder, stdin=stdin, stdout=said,
-                                     preexec_fn=lambda: resource.setrlimit(resource.RLIMIT_AS, (ROOM, ROOM)))
-            self.status = None
-            while self.status is None and time.perf_counter() < started + PATIENCE:
-                pid, status, used = os.wait4(child.pid, os.WNOHANG)
-                if pid:
-                    self.status = os.waitstatus_to_exitcode(status)
-                else:
-                    time.sleep(0.002)
-            if self.status is None:
-                child.kill()
-                _, _, used = os.wait4(child.pid, 0)
-            child.returncode = 0
-        self.seconds = time.perf_counter() - started
-        self.processor = used.ru_utime + used.ru_stime
+                                     preexec_fn=confined)
+            _, status, used = os.wait4(child.pid, 0)
+            self.status = child.returncode = os.waitstatus_to_exitcode(status)
+        self.seconds = used.ru_utime + used.ru_stime
         self.memory = used.ru_maxrss * 1024
         with open(out, "rb") as said:
             said.seek(max(0, os.path.getsize(out) - 5000))
@@ -344,29 +339,31 @@ class Ran:
         return case.status in (None, self.status) and (case.line is None or line.startswith(case.line))
 
 
-def measure(work, name, case):
+def measure(work, name, case, size):
     folder = os.path.join(work, "site")
     os.makedirs(folder)
-    made = case(folder, SIZE)
+    made = case(folder, size)
     ran = Ran(folder, made)
     shutil.rmtree(folder)
-    told = f"{name}: {ran.processor:.2f} s of processor time, {ran.memory / MIB:.0f} MiB"
-    if ran.status is None:
-        bench.say(False, f"{told}, stopped after {PATIENCE} s")
+    told = f"{name}: {ran.seconds:.2f} s of processor time, {ran.memory / MIB:.0f} MiB"
+    if ran.status < 0:
+        bench.say(False, f"{told}, stopped by signal {-ran.status}")
     elif not ran.ends_as(made):
         bench.say(False, f"{told}, status {ran.status}, {ran.said[-200:]!r}; wanted {made.status}, {made.line!r}")
     else:
-        bench.say(ran.processor <= SECONDS, f"{told}, status {ran.status}")
+        bench.say(ran.seconds <= SECONDS, f"{told}, status {ran.status}")
 
 
 def main():
     if not os.access(bench.PROGRAM, os.X_OK):
         sys.exit("bench: there is no build/salimgub: run ./build.sh first")
+    words = sys.argv[1:]
+    size = int(float(words.pop(0)) * MIB) if words and words[0][0].isdigit() else SIZE
     work = tempfile.mkdtemp(prefix="salimgub-hostile-")
     try:
         for name, case in CASES.items():
-            if not sys.argv[1:] or any(word in name for word in sys.argv[1:]):
-                measure(work, name, case)
+            if not words or any(word in name for word in words):
+                measure(work, name, case, size)
     finally:
         shutil.rmtree(work)
     print(f"{bench.failures} failed" if bench.failures else "all passed")

@@ -27,7 +27,10 @@ impl Pieces {
     pub fn new(alloc: Global, bytes: &[u8], most: usize, takes: &[u64]) -> Result<Pieces, Memory> {
         let mut pieces = Vec::new(alloc);
         let mut rest = bytes;
-        while !rest.is_empty() {
+        for _ in 0..bytes.len() {
+            if rest.is_empty() {
+                break;
+            }
             let (piece, behind) = rest.split_at_checked(most.max(1)).unwrap_or((rest, &[]));
             pieces.push(Piece {
                 source: MemSource::new(alloc, piece, &[])?,

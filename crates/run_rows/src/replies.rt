@@ -19,7 +19,10 @@ impl Replies {
             are_fronts: vec![in alloc; false]?,
         };
         let mut end = 0;
-        while let Some(line) = line_at(said, end) {
+        for _ in 0..said.len() {
+            let Some(line) = line_at(said, end) else {
+                break;
+            };
             end = end.saturating_add(line.len()).saturating_add(1);
             let map = map_bytes(line);
             replies.push(end, map > 0)?;
