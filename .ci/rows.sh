@@ -306,6 +306,54 @@ deep=.$(printf '/a%.0s' $(seq 47))
 at looks "$deep/m0.mjs $deep/m1.mjs" 0 'ok: 8001 modules, 8001 requests, 7999 mappings'
 at looks "$deep/m0.mjs $deep/m1.mjs ./more.mjs" 3 'limit: looks above 400000'
 
+# As many bytes as a map may have, and one more. Each of 16,344 modules, which are one file under names of their own, has a
+# line of 106 bytes and its query; the four that ask for them have one of 106 bytes, the last line of all has no comma, and
+# what stands around them 42 bytes: 42 - 1 + 4 * 106 + 16344 * 106 + 16343 * 4000 + 3935 is 67,108,864.
+maps() {
+    mkdir -p "$kept/$1" && : >"$kept/$1/x.mjs" && python3 - "$kept/$1" "$2" <<'TREE'
+import sys
+
+for hub in range(4):
+    with open(f"{sys.argv[1]}/m{hub}.mjs", "w") as file:
+        for number in range(hub, 16344, 4):
+            length = 4000 if number else int(sys.argv[2])
+            file.write(f'import"./x.mjs?{number:0{length}}";')
+TREE
+}
+maps large 3935
+at large "./m0.mjs ./m1.mjs ./m2.mjs ./m3.mjs" 0 'ok: 16348 modules, 16348 requests, 0 mappings'
+if [ "$(wc -c <"$kept/large/importmap.json")" != 67108864 ]; then
+    echo "map: $(wc -c <"$kept/large/importmap.json") bytes"
+    failed=1
+fi
+maps large 3936
+at large "./m0.mjs ./m1.mjs ./m2.mjs ./m3.mjs" 3 'limit: map above 67108864'
+rm -r "$kept/large"
+
+# As many bytes as a session reads, of which the last ends it, and one more: fifteen files of as many bytes as one may
+# have, and one of COUNT. Each of the first fifteen takes 16 bytes for its line and one behind it, 251,658,495 in all;
+# with 16,776,940 bytes, their 17 and the four of the end these are 268,435,456: session COUNT STATUS LINE.
+session() {
+    mkdir -p "$kept/session"
+    echo '{"base":"https://app.test/","page":"/index.html","conditions":["browser"],"entries":[]}' \
+        >"$kept/session/importmap.project.json"
+    { for _ in $(seq 17); do echo 'ok: 0 modules, 0 requests, 0 mappings'; done; echo "$3"; } >"$kept/wanted"
+    python3 - "$1" <<'INPUT' | (cd "$kept/session" && "$program" session >"$kept/out")
+import sys
+
+for count in [16777216] * 15 + [int(sys.argv[1])]:
+    sys.stdout.write(f"put /a {count}\n" + " " * count + "\n")
+sys.stdout.write("end\n")
+INPUT
+    status=$?
+    if [ "$status" != "$2" ] || ! diff "$kept/wanted" "$kept/out"; then
+        echo "session: status $status"
+        failed=1
+    fi
+}
+session 16776940 0 end
+session 16776941 3 'limit: session above 268435456'
+
 # Injects into the folder $kept/NAME, with a project of the entry ./app.mjs: page NAME STATUS LINE, and the page as it
 # is afterwards on the standard input.
 page() {

@@ -21,6 +21,8 @@ pub(crate) enum Head<'a> {
     Then(&'a str),
     Input(&'a str),
     Fails(&'a str),
+    /// How many bytes of the input come at a time.
+    Pieces(&'a str),
     Cut(&'a str),
     Wanted(&'a str),
     Change(&'a str),
@@ -63,6 +65,7 @@ fn marked<'a>(mark: &'a str, rest: &'a str) -> Head<'a> {
         "then" => then(rest),
         "<" => Head::Input(rest),
         "fails" => Head::Fails(rest),
+        "pieces" => Head::Pieces(rest),
         "cut" => Head::Cut(rest),
         "=>" => Head::Wanted(rest),
         "+" => Head::Change(rest),

@@ -212,6 +212,7 @@ impl Reader {
             Head::Change(file) => self.change(alloc, item, file),
             Head::Input(text) => self.input(alloc, item, text),
             Head::Fails(calls) => self.fail(item, calls),
+            Head::Pieces(length) => self.pieces(item, length),
             Head::Cut(cut) => self.cut(alloc, item, cut),
             Head::Wanted(text) => self.want(alloc, item, text),
             Head::Looks => self.look(alloc, item),
@@ -339,7 +340,18 @@ impl Reader {
         Ok(())
     }
 
-    // `PATH FIRST-LAST`
+    // The number of bytes that come at a time.
+    fn pieces(&mut self, item: &Item, length: &str) -> Result<(), RowFault> {
+        item.without_block()?;
+        let run = last_of(&mut self.runs)?;
+        if run.piece.is_some() {
+            return Err(malformed("a run's pieces stand twice"));
+        }
+        run.piece = Some(number_of(length)?);
+        Ok(())
+    }
+
+    // `PATH FIRST-LAST`, or `< FIRST-LAST` for the input.
     fn cut(&mut self, alloc: Global, item: &Item, cut: &str) -> Result<(), RowFault> {
         item.without_block()?;
         let run = last_of(&mut self.runs)?;
@@ -351,7 +363,7 @@ impl Reader {
         }
         let (first, last) = range_of(range)?;
         run.cut = Some(Cut {
-            path: unescaped_text(alloc, path, None)?,
+            path: cut_path(alloc, path)?,
             first,
             last,
         });
@@ -387,16 +399,13 @@ impl Reader {
         Ok(())
     }
 
-    // `CALL FIRST-LAST => WANTED`
+    // `CALL FIRST-LAST => WANTED`, or `CALL FIRST-LAST again`
     fn turn(&mut self, alloc: Global, item: &Item, turns: &str) -> Result<(), RowFault> {
-        let Some((calls, wanted)) = turns.split_once(" => ") else {
-            return Err(malformed("calls that fail in turn want ` => `"));
-        };
+        let (calls, wanted) = turned(alloc, item, turns)?;
         let Some((name, range)) = calls.split_once(' ') else {
             return Err(malformed("calls that fail in turn want their numbers"));
         };
         let (first, last) = range_of(range)?;
-        let wanted = wanted_of(alloc, item, wanted)?;
         last_of(&mut self.runs)?.turns.push(Turns {
             call: Call::parse(name)?,
             first,
@@ -404,6 +413,30 @@ impl Reader {
             wanted,
         })?;
         Ok(())
+    }
+}
+
+// The path of a file that is cut; None for the input.
+fn cut_path(alloc: Global, path: &str) -> Result<Option<String>, RowFault> {
+    if path == "<" {
+        return Ok(None);
+    }
+    Ok(Some(unescaped_text(alloc, path, None)?))
+}
+
+// The calls that fail in turn, and what must come then.
+fn turned<'a>(
+    alloc: Global,
+    item: &Item,
+    turns: &'a str,
+) -> Result<(&'a str, Option<Wanted>), RowFault> {
+    if let Some((calls, wanted)) = turns.split_once(" => ") {
+        return Ok((calls, Some(wanted_of(alloc, item, wanted)?)));
+    }
+    item.without_block()?;
+    match turns.strip_suffix(" again") {
+        Some(calls) => Ok((calls, None)),
+        None => Err(malformed("calls that fail in turn want ` => ` or ` again`")),
     }
 }
 

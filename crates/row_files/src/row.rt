@@ -24,6 +24,8 @@ pub struct Run {
     pub is_gone_on: bool,
     pub words: Vec<String>,
     pub input: Vec<u8>,
+    /// How many bytes of the input come at a time; None where all may.
+    pub piece: Option<u64>,
     pub fails: Fails,
     pub cut: Option<Cut>,
     pub(crate) wanted: Option<Wanted>,
@@ -45,7 +47,7 @@ pub struct Fails {
 }
 
 /// A kind of calls of the outside.
-#[derive(Clone, Copy)]
+#[derive(Clone, Copy, PartialEq, Eq)]
 pub enum Call {
     Look,
     Write,
@@ -53,10 +55,11 @@ pub enum Call {
     Give,
 }
 
-/// A file of which only a front is there: a run for each of these lengths.
+/// A file, or the input, of which only a front is there: a run for each of these lengths.
 #[derive(Drop)]
 pub struct Cut {
-    pub path: String,
+    /// None is the input.
+    pub path: Option<String>,
     pub first: u64,
     pub last: u64,
 }
@@ -83,7 +86,8 @@ pub struct Turns {
     pub call: Call,
     pub first: u64,
     pub last: u64,
-    pub wanted: Wanted,
+    /// None where the run is a session that makes an edit again for which a call failed, and so ends as it does itself.
+    pub wanted: Option<Wanted>,
 }
 
 impl Call {
@@ -149,6 +153,7 @@ impl Run {
             is_gone_on: false,
             words,
             input: Vec::new(alloc),
+            piece: None,
             fails: Fails::none(alloc),
             cut: None,
             wanted: None,
@@ -156,6 +161,26 @@ impl Run {
             looks: None,
             turns: Vec::new(alloc),
         }
+    }
+
+    /// Whether edits are made again for which a call failed.
+    pub fn makes_again(&self) -> bool {
+        for turns in self.turns.as_slice() {
+            if turns.wanted.is_none() {
+                return true;
+            }
+        }
+        false
+    }
+
+    /// Whether this call is one of those that fail in turn.
+    pub fn has_turn(&self, call: Call, number: u64) -> bool {
+        for turns in self.turns.as_slice() {
+            if turns.call == call && turns.first <= number && number <= turns.last {
+                return true;
+            }
+        }
+        false
     }
 
     /// What must come.

@@ -1,7 +1,7 @@
 //! Whether a run ended as it must.
 
 use crate::expected::Expected;
-use crate::outcome::Outcome;
+use crate::outside::Outcome;
 use row_files::{Change, Differences, RowFault, Tree};
 use std::alloc::Global;
 use tree_model::{MemFolder, Path};

@@ -6,11 +6,16 @@
 //! in a word how it ended. So the allocation that fails by its number can be any of the run: `.ci/memory.sh` does this.
 #![tactic(auto)]
 
+mod again;
 mod comparing;
 mod ending;
 mod endless;
 mod expected;
 mod outcome;
+mod outside;
+mod pieces;
+mod repeating;
+mod replies;
 mod trying;
 mod watched;
 

@@ -1,5 +1,6 @@
 //! Tries rows.
 
+use crate::again::{Repeated, again_outcome};
 use crate::comparing::{compare_looks, differences};
 use crate::expected::{Expected, expected_of};
 use crate::outcome::outcome_of;
@@ -18,12 +19,13 @@ pub struct Tried {
     line: u64,
 }
 
-/// A run over a tree, in which calls fail or a file is cut.
+/// A run over a tree, in which calls fail or a file or the input is cut.
 #[derive(Clone, Copy)]
 struct Trial<'a> {
     row: &'a Row,
     run: &'a Run,
     tree: &'a Tree,
+    input: &'a [u8],
     fails: &'a Fails,
     /// What tells it from the run itself.
     apart: &'a str,
@@ -126,6 +128,7 @@ fn try_run(
         row,
         run,
         tree,
+        input: run.input.as_slice(),
         fails: &run.fails,
         apart: "",
     };
@@ -145,7 +148,7 @@ fn try_one(
     expected: &Expected<'_>,
     tried: &mut Tried,
 ) -> Result<(), RowFault> {
-    let outcome = outcome_of(alloc, trial.tree, trial.run, trial.fails)?;
+    let outcome = outcome_of(alloc, trial.tree, trial.run, trial.input, trial.fails)?;
     let mut found = differences(alloc, trial.tree, &outcome, expected)?;
     if let Some(looks) = &trial.run.looks {
         if trial.apart.is_empty() {
@@ -155,7 +158,7 @@ fn try_one(
     Ok(tried.count(alloc, trial, &found)?)
 }
 
-// The file cut to each of the lengths.
+// The file or the input cut to each of the lengths.
 fn try_cuts(
     alloc: Global,
     trial: Trial<'_>,
@@ -164,19 +167,55 @@ fn try_cuts(
     tried: &mut Tried,
 ) -> Result<(), RowFault> {
     for length in cut.first..cut.last.saturating_add(1) {
-        let tree = trial.tree.cut(alloc, cut.path.as_str(), length)?;
-        let apart = format!(in alloc; ", {} cut to {length}", cut.path)?;
-        let trial = Trial {
-            tree: &tree,
-            apart: apart.as_str(),
-            ..trial
-        };
-        try_one(alloc, trial, expected, tried)?;
+        match &cut.path {
+            Some(path) => try_cut_file(alloc, trial, path.as_str(), length, expected, tried)?,
+            None => try_cut_input(alloc, trial, length, expected, tried)?,
+        }
     }
     Ok(())
 }
 
-// Each of the calls failing, and then the one that would come next, which the run doesn't make.
+fn try_cut_file(
+    alloc: Global,
+    trial: Trial<'_>,
+    path: &str,
+    length: u64,
+    expected: &Expected<'_>,
+    tried: &mut Tried,
+) -> Result<(), RowFault> {
+    let tree = trial.tree.cut(alloc, path, length)?;
+    let apart = format!(in alloc; ", {path} cut to {length}")?;
+    let trial = Trial {
+        tree: &tree,
+        apart: apart.as_str(),
+        ..trial
+    };
+    try_one(alloc, trial, expected, tried)
+}
+
+fn try_cut_input(
+    alloc: Global,
+    trial: Trial<'_>,
+    length: u64,
+    expected: &Expected<'_>,
+    tried: &mut Tried,
+) -> Result<(), RowFault> {
+    let Some(input) = trial.input.get(..length as usize) else {
+        return Err(RowFault::Malformed {
+            why: "an input is cut where it has no bytes",
+        });
+    };
+    let apart = format!(in alloc; ", the input cut to {length}")?;
+    let trial = Trial {
+        input,
+        apart: apart.as_str(),
+        ..trial
+    };
+    try_one(alloc, trial, expected, tried)
+}
+
+// Each of the calls failing, and then the one that would come next, which the run doesn't make unless others fail in
+// turn behind these.
 fn try_turns(
     alloc: Global,
     trial: Trial<'_>,
@@ -184,11 +223,17 @@ fn try_turns(
     expected: &Expected<'_>,
     tried: &mut Tried,
 ) -> Result<(), RowFault> {
-    let beyond = turns.last.saturating_add(1);
-    for number in turns.first..beyond {
+    let Some(wanted) = &turns.wanted else {
+        return try_agains(alloc, trial, turns, expected, tried);
+    };
+    for number in turns.first..turns.last.saturating_add(1) {
         let changes = changed_before(turns.call, number, expected.changes);
-        let ended = expected_of(alloc, &turns.wanted, changes)?;
+        let ended = expected_of(alloc, wanted, changes)?;
         try_turn(alloc, trial, turns.call, number, &ended, tried)?;
+    }
+    let beyond = turns.last.saturating_add(1);
+    if trial.run.has_turn(turns.call, beyond) {
+        return Ok(());
     }
     try_turn(alloc, trial, turns.call, beyond, expected, tried)
 }
@@ -209,6 +254,49 @@ fn try_turn(
         ..trial
     };
     try_one(alloc, trial, expected, tried)
+}
+
+// The session that makes an edit again, with each of the calls failing, and with none.
+fn try_agains(
+    alloc: Global,
+    trial: Trial<'_>,
+    turns: &Turns,
+    expected: &Expected<'_>,
+    tried: &mut Tried,
+) -> Result<(), RowFault> {
+    try_again(alloc, trial, 0, expected, tried)?;
+    for number in turns.first..turns.last.saturating_add(1) {
+        let fails = trial.fails.and_one(alloc, turns.call, number)?;
+        let apart = format!(in alloc; ", {} {number} failing, again", turns.call.name())?;
+        let trial = Trial {
+            fails: &fails,
+            apart: apart.as_str(),
+            ..trial
+        };
+        try_again(alloc, trial, 1, expected, tried)?;
+    }
+    Ok(())
+}
+
+// So many edits have to be made again.
+fn try_again(
+    alloc: Global,
+    trial: Trial<'_>,
+    repeats: u64,
+    expected: &Expected<'_>,
+    tried: &mut Tried,
+) -> Result<(), RowFault> {
+    let Repeated { outcome, told } = again_outcome(alloc, trial.tree, trial.run, trial.fails)?;
+    let mut found = differences(alloc, trial.tree, &outcome, expected)?;
+    if told.repeats != repeats {
+        let number = format!(in alloc; " edits are made again, and not {repeats}")?;
+        let count = format!(in alloc; "{}", told.repeats)?;
+        found.push(count.as_str(), number.as_str())?;
+    }
+    if !told.stays {
+        found.push("the session", " is changed by an edit that isn't made")?;
+    }
+    Ok(tried.count(alloc, trial, &found)?)
 }
 
 // Which of the files are written before a call fails: a command writes when all its looks and takes are done, one

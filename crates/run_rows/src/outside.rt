@@ -1,0 +1,56 @@
+//! What is outside of a run: a folder, an input and an output in memory.
+
+use crate::pieces::Pieces;
+use crate::watched::Watched;
+use row_files::{Fails, RowFault, Run, Tree};
+use std::alloc::Global;
+use tree_model::{MemFolder, MemSink};
+
+/// What is outside of a run.
+#[derive(Drop)]
+pub struct Outside {
+    pub folder: Watched<MemFolder>,
+    pub input: Pieces,
+    pub out: MemSink,
+}
+
+/// How a run ended, with what it left.
+#[derive(Drop)]
+pub struct Outcome {
+    pub status: u8,
+    pub folder: Watched<MemFolder>,
+    pub out: MemSink,
+}
+
+impl Outside {
+    /// A folder with this tree, this input in the pieces that the run names, and an output, where these calls fail.
+    pub fn new(
+        alloc: Global,
+        tree: &Tree,
+        run: &Run,
+        input: &[u8],
+        fails: &Fails,
+    ) -> Result<Outside, RowFault> {
+        let folder = tree.folder(alloc, fails.looks.as_slice(), fails.writes.as_slice())?;
+        let most = run.piece.unwrap_or(u64::MAX) as usize;
+        Ok(Outside {
+            folder: Watched::new(alloc, folder),
+            input: Pieces::new(alloc, input, most, fails.takes.as_slice())?,
+            out: MemSink::new(alloc, fails.gives.as_slice())?,
+        })
+    }
+
+    /// What is left behind by what ended with this status.
+    pub fn left(self, status: u8) -> Result<Outcome, RowFault> {
+        let Outside { folder, input, out } = self;
+        drop(input);
+        if !folder.is_whole() {
+            return Err(RowFault::Memory);
+        }
+        Ok(Outcome {
+            status,
+            folder,
+            out,
+        })
+    }
+}
