@@ -311,16 +311,6 @@ step_alive graph steps index number slot at alive =
 
 -- ---- how a request is spelled
 
-pub entry_found :
-    (found : Option (Bor (List ℕ))) (texts : List (List ℕ)) (number : ℕ) (text : Bor (List ℕ)) → found ≡ Some text
-    → option_copied found ≡ slice_get texts number → text.now ≡ unwrap_or (slice_get texts number) []
-entry_found found texts number text is lends = ap (λ some. unwrap_or some []) (sym (ap option_copied is) ∙ lends)
-
-pub no_entry :
-    (found : Option (Bor (List ℕ))) (texts : List (List ℕ)) (number : ℕ) → found ≡ None
-    → option_copied found ≡ slice_get texts number → [] ≡ unwrap_or (slice_get texts number) []
-no_entry found texts number none lends = ap (λ some. unwrap_or some []) (sym (ap option_copied none) ∙ lends)
-
 -- the specifiers of a module are those of its requests
 pub asked_is :
     (v : vertex.Module) (number : ℕ) → asked_at v number ≡ slice_get (source_of v).specifiers number
