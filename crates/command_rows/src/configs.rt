@@ -104,7 +104,8 @@ fn after(alloc: Global, row: &str, found: Option<Config>, said: &mut Said) -> Op
             None
         }
         Ok(Wanted::Why { path }) => {
-            push_named("why ", &path, said);
+            said.push("why ");
+            push_bracketed(path.as_str(), said);
             None
         }
         Err(fault) => {
