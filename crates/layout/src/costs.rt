@@ -11,7 +11,7 @@ pub(crate) type Costs = Listed<usize>;
 pub(crate) fn sum(alloc: Global, one: &Costs, other: &Costs) -> Result<Costs, Memory>
     ensures { IfOk result (λ both. both ≡ definition.added one.now other.now) }
 {
-    let mut both = Costs::new(alloc);
+    let mut both = Costs::from_vec(Vec::with_capacity(alloc, one.len())?);
     let mut left = one.as_slice();
     let mut right = other.as_slice();
     while let Some((cost, more)) = left.split_first() {
@@ -56,7 +56,7 @@ fn least_of(costs: &[usize]) -> usize
 fn more_than(alloc: Global, costs: &[usize], least: usize) -> Result<Costs, Memory>
     ensures { IfOk result (λ each. each ≡ definition.more_than least costs.now) }
 {
-    let mut each = Costs::new(alloc);
+    let mut each = Costs::from_vec(Vec::with_capacity(alloc, costs.len())?);
     let mut left = costs;
     while let Some((cost, more)) = left.split_first() {
         each.push(if *cost == least { 0 } else { 1 })?;
@@ -68,7 +68,7 @@ fn more_than(alloc: Global, costs: &[usize], least: usize) -> Result<Costs, Memo
 fn other_than(alloc: Global, costs: &[usize], own: usize) -> Result<Costs, Memory>
     ensures { IfOk result (λ each. each ≡ definition.other_than own 0 costs.now) }
 {
-    let mut each = Costs::new(alloc);
+    let mut each = Costs::from_vec(Vec::with_capacity(alloc, costs.len())?);
     let mut left = costs;
     let mut number = 0;
     while let Some((_, more)) = left.split_first() {

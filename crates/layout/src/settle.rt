@@ -31,7 +31,7 @@ pub(crate) fn settled(alloc: Global, nodes: &[Node], width: usize) -> Result<Vec
 fn nothing(alloc: Global, count: usize, width: usize) -> Result<Vec<Costs>, Memory>
     ensures { IfOk result (λ rows. rows.items ≡ replicate count (replicate width 0)) }
 {
-    let mut rows = Vec::new(alloc);
+    let mut rows = Vec::with_capacity(alloc, count)?;
     for index in 0..count {
         rows.push(free(alloc, width)?)?;
     }
@@ -41,7 +41,7 @@ fn nothing(alloc: Global, count: usize, width: usize) -> Result<Vec<Costs>, Memo
 fn free(alloc: Global, width: usize) -> Result<Costs, Memory>
     ensures { IfOk result (λ costs. costs ≡ replicate width 0) }
 {
-    let mut costs = Costs::new(alloc);
+    let mut costs = Costs::from_vec(Vec::with_capacity(alloc, width)?);
     for index in 0..width {
         costs.push(0)?;
     }
