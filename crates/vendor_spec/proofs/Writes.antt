@@ -20,7 +20,7 @@ use Rattle.tree_spec.specs.declared.Entry.TheVariants.{Stored, Directory}
 use Rattle.url_spec.proofs.PathDecisions.{test_by_path}
 use Rattle.url_spec.specs.PathTests.{is_path}
 use Rattle.vendor_spec.specs.Laws.{CopiedIsCopy, CopiedLeavesRest}
-use Rattle.vendor_spec.specs.Vendored.{Pair, IsBelow, Copied, nothing, one_more, IsPlan, IsApart}
+use Rattle.vendor_spec.specs.Vendored.{Pair, IsBelow, Written, goals, nothing, one_more, IsPlan, IsApart}
 
 -- ---- texts of paths
 
@@ -39,6 +39,19 @@ begins_so path is = by path (test_by_path path is)
 
 same_rest : (to one other : List ℕ) → to ++ one ≡ to ++ other → one ≡ other
 same_rest to one other e = sym (drop-append_seam to one) ∙ (ap (drop (length to)) e ∙ drop-append_seam to other)
+
+-- ---- the goals
+
+goals_behind : (to : List ℕ) (file pair : Pair) (more rest : List Pair) → (file ∷ more) ≡ goals to (pair ∷ rest)
+    → more ≡ goals to rest
+goals_behind to file pair more rest e = cc
+
+placed_at : (to : List ℕ) (tree middle : Tree) (file pair : Pair) (more rest : List Pair)
+    → (file ∷ more) ≡ goals to (pair ∷ rest) → Places tree file.0 (Stored file.1) middle
+    → Places tree (to ++ pair.0) (Stored pair.1) middle
+placed_at to tree middle file pair more rest e placed =
+    let same : file ≡ (to ++ pair.0, pair.1) = cc in
+    subst (λ (f : Pair). Places tree f.0 (Stored f.1) middle) same placed
 
 module _ (to : List ℕ) (to_is : IsPath to) (to_deep : to ≢ codes "/") where
   some_to : to ≢ []
@@ -182,14 +195,19 @@ module _ (to : List ℕ) (to_is : IsPath to) (to_deep : to ≢ codes "/") where
       }
 
     copied : (paths : List (List ℕ)) (pairs : List Pair) → IsPlan old to paths pairs → (tree after : Tree)
-        (done rest : List Pair) → Copied to tree rest after → pairs ≡ done ++ rest → IsDone tree done → IsDone after pairs
-    copied paths pairs plan _ _ done _ (nothing tree) e is_done =
+        (done rest files : List Pair) → Written tree files after → files ≡ goals to rest → pairs ≡ done ++ rest
+        → IsDone tree done → IsDone after pairs
+    copied paths pairs plan _ _ done [] _ (nothing tree) same e is_done =
         subst (IsDone tree) (sym (append-nil done) ∙ sym e) is_done
-    copied paths pairs plan _ _ done _ (one_more tree middle after pair more placed later) e is_done =
+    copied paths pairs plan _ _ done (pair ∷ rest) _ (nothing tree) same e is_done = absurd (cc)
+    copied paths pairs plan _ _ done [] _ (one_more tree middle after file more placed later) same e is_done = absurd (cc)
+    copied paths pairs plan _ _ done (pair ∷ rest) _ (one_more tree middle after file more placed later) same e is_done =
         let held : Contains pairs pair =
-        subst (λ ps. Contains ps pair) (sym e) (Contains-append_right done (pair ∷ more) pair (contains_here pair more)) in
-        copied paths pairs plan middle after (done ++ pair ∷ []) more later (e ∙ sym (append_assoc done (pair ∷ []) more))
-        (next tree middle done pair (plan.files pair held) (plan.goals pair held) placed is_done)
+        subst (λ ps. Contains ps pair) (sym e) (Contains-append_right done (pair ∷ rest) pair (contains_here pair rest)) in
+        copied paths pairs plan middle after (done ++ pair ∷ []) rest more later (goals_behind to file pair more rest same)
+        (e ∙ sym (append_assoc done (pair ∷ []) rest))
+        (next tree middle done pair (plan.files pair held) (plan.goals pair held)
+        (placed_at to tree middle file pair more rest same placed) is_done)
 
 -- ---- the tree below the folder
 
@@ -284,7 +302,7 @@ module _ (old after below : Tree) (to : List ℕ) (to_is : IsPath to) (to_deep :
 pub copied_is_copy : CopiedIsCopy
 copied_is_copy old after below to paths pairs is_old to_is to_deep free plan writes is_below =
     let done : IsDone to to_is to_deep old is_old free after pairs =
-    copied to to_is to_deep old is_old free paths pairs plan old after [] pairs writes refl
+    copied to to_is to_deep old is_old free paths pairs plan old after [] pairs (goals to pairs) writes refl refl
     (at_start to to_is to_deep old is_old free) in
     record {
       is_tree = record {
@@ -337,22 +355,26 @@ stays_once tree middle to path goal bytes apart_from above placed =
     stays_by tree middle path (get tree path) refl (λ old e. placed.stays path old other e)
     (λ e. placed.no_more path other (apart_from_goal to path goal apart_from above) e)
 
-stays_through : (to path : List ℕ) → IsApart to path → (tree after : Tree) (rest : List Pair)
-    → Copied to tree rest after → ((pair : Pair) → Contains rest pair → IsAbove to (to ++ pair.0))
+stays_through : (to path : List ℕ) → IsApart to path → (tree after : Tree) (rest files : List Pair)
+    → Written tree files after → files ≡ goals to rest → ((pair : Pair) → Contains rest pair → IsAbove to (to ++ pair.0))
     → get after path ≡ get tree path
-stays_through to path apart_from _ _ _ (nothing tree) goals = refl
-stays_through to path apart_from _ _ _ (one_more tree middle after pair more placed later) goals =
-    stays_through to path apart_from middle after more later (λ other held. goals other (contains_there other pair more held))
-    ∙ stays_once tree middle to path (to ++ pair.0) pair.1 apart_from (goals pair (contains_here pair more)) placed
+stays_through to path apart_from _ _ [] _ (nothing tree) same above = refl
+stays_through to path apart_from _ _ (pair ∷ rest) _ (nothing tree) same above = absurd (cc)
+stays_through to path apart_from _ _ [] _ (one_more tree middle after file more placed later) same above = absurd (cc)
+stays_through to path apart_from _ _ (pair ∷ rest) _ (one_more tree middle after file more placed later) same above =
+    stays_through to path apart_from middle after rest more later (goals_behind to file pair more rest same)
+    (λ other held. above other (contains_there other pair rest held))
+    ∙ stays_once tree middle to path (to ++ pair.0) pair.1 apart_from (above pair (contains_here pair rest))
+    (placed_at to tree middle file pair more rest same placed)
 
 pub copied_leaves_rest : CopiedLeavesRest
 copied_leaves_rest old after to paths pairs is_old to_is to_deep free plan writes =
     let done : IsDone to to_is to_deep old is_old free after pairs =
-    copied to to_is to_deep old is_old free paths pairs plan old after [] pairs writes refl
+    copied to to_is to_deep old is_old free paths pairs plan old after [] pairs (goals to pairs) writes refl refl
     (at_start to to_is to_deep old is_old free) in
     record {
       is_tree = done.is_tree;
-      stays = λ path apart_from. stays_through to path apart_from old after pairs writes
+      stays = λ path apart_from. stays_through to path apart_from old after pairs (goals to pairs) writes refl
           (λ pair held. to_above to to_is to_deep pair.0 (is_old.paths pair.0 (Stored pair.1) (plan.files pair held))
           (plan.goals pair held));
     }

@@ -1,0 +1,5 @@
+mod Elements
+mod GoalPaths
+pub mod GoalMaps
+pub mod Writes
+mod PlannedFiles
