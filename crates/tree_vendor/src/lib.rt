@@ -1,7 +1,7 @@
 //! What is copied of a generation's files into a folder of their own, and the copying.
 #![tactic(auto)]
 
-ghost use Rattle.tree_vendor.specs.Laws.{PlannedIsPlan, PlannedAreKept};
+ghost use Rattle.tree_vendor.specs.Laws.{FaultsAreOfTree, PlannedIsPlan, PlannedAreKept};
 
 mod copying;
 mod goals;
@@ -20,4 +20,10 @@ pub fn planned_is_plan()
 #[tactic(auto, using(crate::proofs::PlannedFiles::planned_are_kept))]
 pub fn planned_are_kept()
     ensures { PlannedAreKept }
+{}
+
+/// A copy's path has too much for the plan exactly where it has for the tree.
+#[tactic(auto, using(crate::proofs::PlannedFiles::faults_are_of_tree))]
+pub fn faults_are_of_tree()
+    ensures { FaultsAreOfTree }
 {}
