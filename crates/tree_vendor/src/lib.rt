@@ -17,13 +17,11 @@ pub fn planned_is_plan()
 {}
 
 /// Of each source of a plan a file is kept.
-#[tactic(auto, using(crate::proofs::PlannedFiles::planned_are_kept))]
 pub fn planned_are_kept()
     ensures { PlannedAreKept }
 {}
 
 /// A copy's path has too much for the plan exactly where it has for the tree.
-#[tactic(auto, using(crate::proofs::PlannedFiles::faults_are_of_tree))]
 pub fn faults_are_of_tree()
     ensures { FaultsAreOfTree }
 {}

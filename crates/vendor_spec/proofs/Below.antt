@@ -1,5 +1,5 @@
 -- The tree below a folder: of each entry behind the folder's path, what stands behind that.
-use Rattle.std.proofs.Common.{◌≡◌, ◌≢◌, ◌++◌, ◌&&◌, [], ◌∷◌, ℕ, List, Bool, true, false, cond, length, Option, Some, None, refl, sym, ap, ◌∙◌, subst}
+use Rattle.std.proofs.Common.{◌≡◌, ◌≢◌, ◌++◌, ◌&&◌, [], ◌∷◌, ℕ, List, Bool, true, false, cond, length, Option, Some, None, refl, sym, ap, ◌∙◌, subst, inl, inr}
 use Rattle.std.proofs.Math.Seq.{drop-append_seam}
 use Rattle.std.proofs.lemmas.Bool.{and_from, and_parts}
 use Rattle.std.proofs.lemmas.Map.Text.{is_eq-slice_cmp}
@@ -85,21 +85,22 @@ module _ (to : List ℕ) where
 
   rests_are_paths : (path : List ℕ) (entry : Entry) (es : Entries) → found path (rests es) ≡ Some entry → IsPath path
   rests_are_paths path entry [] e = absurd (cc)
-  rests_are_paths path entry (first ∷ es) e = by (stands first.0) refl e
+  rests_are_paths path entry (first ∷ es) e = by (stands first.0) refl e (rests_are_paths path entry es)
     where
       by_same : stands first.0 ≡ true → (same : Bool) → Decides same (path ≡ behind first.0)
-          → found_by same first.1 (found path (rests es)) ≡ Some entry → IsPath path
-      by_same k true d at =
+          → found_by same first.1 (found path (rests es)) ≡ Some entry
+          → (found path (rests es) ≡ Some entry → IsPath path) → IsPath path
+      by_same k true d at rest =
           path_by_test path
           (ap is_path (d.0 refl) ∙ (and_parts (bytes_eq first.0 (to ++ behind first.0)) (is_path (behind first.0)) k).1)
-      by_same k false d at = rests_are_paths path entry es at
+      by_same k false d at rest = rest at
 
       by : (keep : Bool) → stands first.0 ≡ keep → found path (with_first keep first (rests es)) ≡ Some entry
-          → IsPath path
-      by true k at =
+          → (found path (rests es) ≡ Some entry → IsPath path) → IsPath path
+      by true k at rest =
           by_same k (bytes_eq path (behind first.0)) (bytes_eq-Decides path (behind first.0))
-          (sym (found_first path (behind first.0, first.1) (rests es)) ∙ at)
-      by false k at = rests_are_paths path entry es at
+          (sym (found_first path (behind first.0, first.1) (rests es)) ∙ at) rest
+      by false k at rest = rest at
 
   abbrev root_first : Tree → Entries
   root_first tree = (codes "/", Directory) ∷ rests (entries tree)

@@ -104,8 +104,7 @@ module _ (old : Tree) (to : List ℕ) (to_is : IsPath to) (to_deep : to ≢ code
       let on =
       written paths pairs plan (middle tree done pair source goal is_done knows) (done ++ pair ∷ []) rest
       (e ∙ sym (append_assoc done (pair ∷ []) rest)) (later tree done pair source goal is_done knows)
-      (knows_more tree done pair source goal is_done knows) in
-      (
+      (knows_more tree done pair source goal is_done knows) in (
         on.0,
         one_more tree (middle tree done pair source goal is_done knows) on.0 (to ++ pair.0, pair.1) (goals to rest)
             (placed tree done pair source goal is_done knows) on.1,

@@ -1,5 +1,5 @@
 -- The files that a tree has at some paths, in byte order: one list, and there is one where each copy's path is one.
-use Rattle.std.proofs.Common.{◌≡◌, ◌≢◌, ◌⊎◌, ◌<◌, ◌+◌, ◌++◌, ◌&&◌, [], ◌∷◌, ℕ, List, Bool, true, false, cond, length, map, Option, Some, None, refl, sym, ap, ◌∙◌, subst, inl, inr, tt, arith, ◌≤◌}
+use Rattle.std.proofs.Common.{◌≡◌, ◌≢◌, ◌⊎◌, ◌<◌, ◌+◌, ◌++◌, ◌&&◌, [], ◌∷◌, ℕ, List, Bool, true, false, cond, length, map, Option, Some, None, refl, sym, ap, ◌∙◌, subst, inl, inr, arith, ◌≤◌}
 use Rattle.std.proofs.lemmas.Bool.{and_parts, cases_lt}
 use Rattle.std.proofs.lemmas.Cmp.{tied_itself}
 use Rattle.std.proofs.lemmas.Map.Lookups.{exact_bytes}
@@ -153,26 +153,27 @@ files_in (e ∷ es) = file_first e.0 e.1 (files_in es)
 
 files_behind : (path : List ℕ) (es : Entries) → below_all order path es ≡ true → AllByRecursion (λ source. order path source ≡ Less) (sources (files_in es))
 files_behind path [] below = tt
-files_behind path (e ∷ es) below = by e.1
+files_behind path (e ∷ es) below =
+    let parts = and_parts (is_lt (order path e.0)) (below_all order path es) below in
+    by e.1 (less_so (order path e.0) parts.0) (files_behind path es parts.1)
   where
-    parts : (is_lt (order path e.0) ≡ true) × (below_all order path es ≡ true)
-    parts = and_parts (is_lt (order path e.0)) (below_all order path es) below
+    by : (entry : Entry) → order path e.0 ≡ Less → AllByRecursion (λ source. order path source ≡ Less) (sources (files_in es))
+        → AllByRecursion (λ source. order path source ≡ Less) (sources (file_first e.0 entry (files_in es)))
+    by (Stored bytes) less rest = (less, rest)
+    by Directory less rest = rest
 
-    by : (entry : Entry) → AllByRecursion (λ source. order path source ≡ Less) (sources (file_first e.0 entry (files_in es)))
-    by (Stored bytes) = (less_so (order path e.0) parts.0, files_behind path es parts.1)
-    by Directory = files_behind path es parts.1
+file_in_order : (path : List ℕ) (entry : Entry) (es : Entries) → AllByRecursion (λ source. order path source ≡ Less) (sources (files_in es))
+    → InOrder (files_in es) → InOrder (file_first path entry (files_in es))
+unfolding IsStrictlySortedBy
+file_in_order path (Stored bytes) es behind rest = (behind, rest)
+file_in_order path Directory es behind rest = rest
 
 files_in_order : (es : Entries) → is_sorted order es ≡ true → InOrder (files_in es)
 unfolding IsStrictlySortedBy
 files_in_order [] sorted = tt
-files_in_order (e ∷ es) sorted = by e.1
-  where
-    parts : (below_all order e.0 es ≡ true) × (is_sorted order es ≡ true)
-    parts = and_parts (below_all order e.0 es) (is_sorted order es) sorted
-
-    by : (entry : Entry) → InOrder (file_first e.0 entry (files_in es))
-    by (Stored bytes) = (files_behind e.0 es parts.0, files_in_order es parts.1)
-    by Directory = files_in_order es parts.1
+files_in_order (e ∷ es) sorted =
+    let parts = and_parts (below_all order e.0 es) (is_sorted order es) sorted in
+    file_in_order e.0 e.1 es (files_behind e.0 es parts.0) (files_in_order es parts.1)
 
 abbrev found : List ℕ → Entries → Option Entry
 found path es = find order path es
@@ -186,33 +187,35 @@ found_first path e es = ap (λ same. found_by same e.1 (found path es)) (is_eq-s
 -- a file that is found is listed
 listed : (path bytes : List ℕ) (es : Entries) → found path es ≡ Some (Stored bytes) → Contains (files_in es) (path, bytes)
 listed path bytes [] at = absurd (cc)
-listed path bytes (e ∷ es) at = by e.1 (bytes_eq path e.0) (bytes_eq-Decides path e.0) (sym (found_first path e es) ∙ at)
+listed path bytes (e ∷ es) at =
+    by e.1 (bytes_eq path e.0) (bytes_eq-Decides path e.0) (sym (found_first path e es) ∙ at) (listed path bytes es)
   where
     by : (entry : Entry) (same : Bool) → Decides same (path ≡ e.0) → found_by same entry (found path es) ≡ Some (Stored bytes)
+        → (found path es ≡ Some (Stored bytes) → Contains (files_in es) (path, bytes))
         → Contains (file_first e.0 entry (files_in es)) (path, bytes)
-    by (Stored others) true d at =
+    by (Stored others) true d at rest =
         let same : others ≡ bytes = cc in
         subst (λ (pair : Pair). Contains ((e.0, others) ∷ files_in es) pair) (λ i. (sym (d.0 refl) i, same i))
         (contains_here (e.0, others) (files_in es))
-    by Directory true d at = absurd (cc)
-    by (Stored others) false d at = contains_there (path, bytes) (e.0, others) (files_in es) (listed path bytes es at)
-    by Directory false d at = listed path bytes es at
+    by Directory true d at rest = absurd (cc)
+    by (Stored others) false d at rest = contains_there (path, bytes) (e.0, others) (files_in es) (rest at)
+    by Directory false d at rest = rest at
 
 -- and a file that is listed is found
 behind_first : (path : List ℕ) (es : Entries) → below_all order path es ≡ true → (pair : Pair) → Contains (files_in es) pair
     → order path pair.0 ≡ Less
 behind_first path [] below pair held = absurd (contains_none pair held)
-behind_first path (e ∷ es) below pair held = by e.1 held
+behind_first path (e ∷ es) below pair held =
+    let parts = and_parts (is_lt (order path e.0)) (below_all order path es) below in
+    by e.1 held (less_so (order path e.0) parts.0) (behind_first path es parts.1 pair)
   where
-    parts : (is_lt (order path e.0) ≡ true) × (below_all order path es ≡ true)
-    parts = and_parts (is_lt (order path e.0)) (below_all order path es) below
-
-    by : (entry : Entry) → Contains (file_first e.0 entry (files_in es)) pair → order path pair.0 ≡ Less
-    by (Stored bytes) held = elim (contains_cases pair (e.0, bytes) (files_in es) held) [
-      | inl same ↦ ap (λ (p : Pair). order path p.0) (sym same) ∙ less_so (order path e.0) parts.0
-      | inr later ↦ behind_first path es parts.1 pair later
+    by : (entry : Entry) → Contains (file_first e.0 entry (files_in es)) pair → order path e.0 ≡ Less
+        → (Contains (files_in es) pair → order path pair.0 ≡ Less) → order path pair.0 ≡ Less
+    by (Stored bytes) held less rest = elim (contains_cases pair (e.0, bytes) (files_in es) held) [
+      | inl same ↦ ap (λ (p : Pair). order path p.0) (sym same) ∙ less
+      | inr later ↦ rest later
     ]
-    by Directory held = behind_first path es parts.1 pair held
+    by Directory held less rest = rest held
 
 not_same : (b : Bool) (one other : List ℕ) → Decides b (one ≡ other) → one ≢ other → b ≡ false
 not_same true one other d different = absurd (different (d.0 refl))
@@ -220,26 +223,28 @@ not_same false one other d different = refl
 
 stands : (pair : Pair) (es : Entries) → is_sorted order es ≡ true → Contains (files_in es) pair → found pair.0 es ≡ Some (Stored pair.1)
 stands pair [] sorted held = absurd (contains_none pair held)
-stands pair (e ∷ es) sorted held = found_first pair.0 e es ∙ by e.1 held
+stands pair (e ∷ es) sorted held =
+    let parts = and_parts (below_all order e.0 es) (is_sorted order es) sorted in
+    found_first pair.0 e es ∙ by e.1 held (later_found parts.0 (stands pair es parts.1))
   where
-    parts : (below_all order e.0 es ≡ true) × (is_sorted order es ≡ true)
-    parts = and_parts (below_all order e.0 es) (is_sorted order es) sorted
-
-    later_found : (entry : Entry) → Contains (files_in es) pair → found_by (bytes_eq pair.0 e.0) entry (found pair.0 es) ≡ Some (Stored pair.1)
-    later_found entry later =
+    later_found : below_all order e.0 es ≡ true → (Contains (files_in es) pair → found pair.0 es ≡ Some (Stored pair.1))
+        → (entry : Entry) → Contains (files_in es) pair → found_by (bytes_eq pair.0 e.0) entry (found pair.0 es) ≡ Some (Stored pair.1)
+    later_found below rest entry later =
         ap (λ same. found_by same entry (found pair.0 es))
         (not_same (bytes_eq pair.0 e.0) pair.0 e.0 (bytes_eq-Decides pair.0 e.0)
-        (λ same. less_differs e.0 pair.0 (behind_first e.0 es parts.0 pair later) (sym same)))
-        ∙ stands pair es parts.1 later
+        (λ same. less_differs e.0 pair.0 (behind_first e.0 es below pair later) (sym same)))
+        ∙ rest later
 
-    by : (entry : Entry) → Contains (file_first e.0 entry (files_in es)) pair → found_by (bytes_eq pair.0 e.0) entry (found pair.0 es) ≡ Some (Stored pair.1)
-    by (Stored bytes) held = elim (contains_cases pair (e.0, bytes) (files_in es) held) [
+    by : (entry : Entry) → Contains (file_first e.0 entry (files_in es)) pair
+        → ((entry : Entry) → Contains (files_in es) pair → found_by (bytes_eq pair.0 e.0) entry (found pair.0 es) ≡ Some (Stored pair.1))
+        → found_by (bytes_eq pair.0 e.0) entry (found pair.0 es) ≡ Some (Stored pair.1)
+    by (Stored bytes) held rest = elim (contains_cases pair (e.0, bytes) (files_in es) held) [
       | inl same ↦ ap (λ b. found_by b (Stored bytes) (found pair.0 es))
           ((bytes_eq-Decides pair.0 e.0).1 (ap (λ (p : Pair). p.0) (sym same)))
           ∙ ap (λ (p : Pair). Some (Stored p.1)) same
-      | inr later ↦ later_found (Stored bytes) later
+      | inr later ↦ rest (Stored bytes) later
     ]
-    by Directory held = later_found Directory held
+    by Directory held rest = rest Directory held
 
 module _ (old : Tree) (paths : List (List ℕ)) where
   abbrev kept : Tree

@@ -22,31 +22,26 @@ pub fn copied_leaves_rest()
 {}
 
 /// The files that a tree has at some paths are one list.
-#[tactic(auto, using(crate::proofs::Plans::one_plan))]
 pub fn one_plan()
     ensures { OnePlan }
 {}
 
 /// The paths of their copies have neither too many bytes nor too many segments.
-#[tactic(auto, using(crate::proofs::Plans::plan_fits))]
 pub fn plan_fits()
     ensures { PlanFits }
 {}
 
 /// They can be listed, or some copy's path has too many bytes, or too many segments.
-#[tactic(auto, using(crate::proofs::Plans::some_plan))]
 pub fn some_plan()
     ensures { SomePlan }
 {}
 
 /// They can be written where nothing stands, and no file above.
-#[tactic(auto, using(crate::proofs::Made::some_copied))]
 pub fn some_copied()
     ensures { SomeCopied }
 {}
 
 /// Below each path a tree stands.
-#[tactic(auto, using(crate::proofs::Below::some_below))]
 pub fn some_below()
     ensures { SomeBelow }
 {}
