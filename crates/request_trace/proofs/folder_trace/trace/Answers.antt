@@ -60,4 +60,4 @@ of-requires-clause-counted g c =
     ∙ ap (λ n. n + module_requests (before_of c.in_ok-tables.tables).sources) (sym (ap length c.entries.ensures.entries))
 
 pub of-requires-clause-beside : goal.of-requires-clause-beside
-of-requires-clause-beside g c = c.in_ok-tables.ensures.tables.beside
+of-requires-clause-beside g c = c.in_ok-tables.ensures.traces.tables.beside
