@@ -8,7 +8,7 @@ returns g c =
     subst
     (λ bytes. IsWritten (g.F.Folder.state c.args.folder.now) c.args.goal.now bytes c.write.result
     (g.F.Folder.state c.write.new.self))
-    (ap (λ found. unwrap_or found []) (ap option_copied (sym c.in-Some.is) ∙ c.file_of.ensures)) c.write.ensures
+    (ap (λ found. unwrap_or found []) (ap option_copied (sym c.in-Some.is) ∙ c.file_of.ensures)) c.write.ensures.written
 
 pub unreachable-requires : goal.unreachable-requires
 unreachable-requires g c =
