@@ -1,6 +1,7 @@
 pub mod Configs
 pub mod Choices
 pub mod Generations
+pub mod CopiedMaps
 pub mod Nameless
 pub mod MapPaths
 pub mod Refusals
