@@ -107,6 +107,10 @@ fn after(alloc: Global, row: &str, found: Option<Config>, said: &mut Said) -> Op
             push_named("why ", &path, said);
             None
         }
+        Ok(Wanted::Vendor { path }) => {
+            push_named("vendor ", &path, said);
+            None
+        }
         Err(fault) => {
             push_words_fault(&fault, said);
             None
