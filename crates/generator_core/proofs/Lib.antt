@@ -8,5 +8,7 @@ pub mod Listings
 pub mod MappedChains
 pub mod LoadedBy
 pub mod Explainings
+pub mod Vendorings
+pub mod CopiesTold
 pub mod Measurings
 pub mod HeldSessions

@@ -7,6 +7,7 @@ pub mod RequestNumbers
 pub mod Nameless
 pub mod MapPaths
 pub mod Refusals
+pub mod Vendorings
 pub mod Outcomes
 pub mod Endings
 pub mod ToldLines
