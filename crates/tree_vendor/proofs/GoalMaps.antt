@@ -15,9 +15,10 @@ use Rattle.package_lookup.specs.declared.known.Known.{Known}
 use Rattle.tree_spec.proofs.Contained.{contains_here, contains_cases, contains_none}
 use Rattle.tree_spec.specs.Paths.{IsPath}
 use Rattle.tree_vendor.proofs.Elements.{contains_at, taken_more}
-use Rattle.tree_vendor.proofs.GoalPaths.{goal_depth, too_deep}
+use Rattle.vendor_spec.proofs.GoalPaths.{goal_depth, too_deep}
+use Rattle.vendor_spec.specs.Goals.{goal_of}
 use Rattle.tree_vendor.specs.Copying.{Step}
-use Rattle.tree_vendor.specs.Planning.{goal_of, AreOfBytes, IsSource, InOrder, ArePlanned, Plans}
+use Rattle.tree_vendor.specs.Planning.{AreOfBytes, IsSource, InOrder, ArePlanned, Plans}
 use Rattle.tree_vendor.specs.Planning.{IsTooLong, HasLongGoal, HasDeepGoal, IsBad, HasBadGoal, IsGoal, AreGoals}
 use Rattle.tree_vendor.specs.declared.planning.VendorFault.{VendorFault}
 use Rattle.tree_vendor.specs.declared.planning.VendorFault.TheVariants.{PathTooLong, TooManySegments, Memory}

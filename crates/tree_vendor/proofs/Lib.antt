@@ -1,5 +1,4 @@
 mod Elements
-mod GoalPaths
 pub mod GoalMaps
 pub mod Writes
-mod PlannedFiles
+pub mod PlannedFiles

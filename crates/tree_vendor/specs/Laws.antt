@@ -1,13 +1,14 @@
 -- The laws of plans. Each is the contract of a function of this crate.
 use Rattle.std.specs.FinMap.{get}
-use Rattle.std.specs.Prelude.{◌≡◌, ◌≢◌, ℕ, List, map, codes, None, Contains}
+use Rattle.std.specs.Prelude.{◌≡◌, ◌≢◌, ◌↔◌, ℕ, List, map, codes, None, Contains}
 use Rattle.package_lookup.specs.Looked.{Sees, known_at, laid_at}
 use Rattle.package_lookup.specs.SeenLooks.{IsWithin}
 use Rattle.package_lookup.specs.declared.known.Known.{Known}
 use Rattle.tree_spec.specs.Trees.{Tree, IsTree}
 use Rattle.vendor_spec.specs.Vendored.{Pair, Written, Copied, IsPlan}
 use Rattle.tree_vendor.specs.Copying.{Step, AreKept, bytes_at, copies}
-use Rattle.tree_vendor.specs.Planning.{ArePlanned}
+use Rattle.vendor_spec.specs.Goals.{HasLongCopy, HasDeepCopy}
+use Rattle.tree_vendor.specs.Planning.{ArePlanned, HasLongGoal, HasDeepGoal}
 
 -- the path and the bytes of each file
 abbrev pub pairs : Known → List Step → List Pair
@@ -32,6 +33,16 @@ PlannedIsPlan =
     (tree : Tree) (to : List ℕ) (footprint : List (List ℕ)) (known : Known) (steps : List Step) → IsTree tree
     → to ≢ codes "/" → KeepsFootprint tree known footprint → ArePlanned footprint known to steps
     → IsPlanOf tree to footprint known steps
+
+-- a copy's path that has too much is one of the tree's files, and the other way round
+pub record FaultsAgree (tree : Tree) (to : List ℕ) (footprint : List (List ℕ)) (known : Known) : Type 0 where
+  pub long : HasLongGoal footprint known to ↔ HasLongCopy tree to footprint
+  pub deep : HasDeepGoal footprint known to ↔ HasDeepCopy tree to footprint
+
+abbrev pub FaultsAreOfTree : Type 0
+FaultsAreOfTree =
+    (tree : Tree) (to : List ℕ) (footprint : List (List ℕ)) (known : Known) → IsTree tree → to ≢ codes "/"
+    → KeepsFootprint tree known footprint → FaultsAgree tree to footprint known
 
 -- of each source of a plan a file is kept
 abbrev pub PlannedAreKept : Type 0

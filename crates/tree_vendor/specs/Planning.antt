@@ -1,12 +1,9 @@
 -- What is copied, and where to.
---     goal_of to path                   the path of a file's copy: the folder's path followed by the file's own; the
---                                       root's slash isn't written twice
 --     IsOfBytes path, AreOfBytes paths  the texts are made of bytes
 --     IsSource known path               a file is kept for the path, which isn't the root
 --     InOrder steps                     the sources ascend in the order of bytes
 --     ArePlanned footprint known to steps
 --                                       exactly the files that are kept for these paths, each with its goal, in order
---     most_path_bytes, most_path_segments      the most of a path
 --     IsTooLong known to path           a file is kept for the path, and its goal has too many bytes
 --     HasLongGoal, HasDeepGoal footprint known to
 --                                       the goal of some file that is kept for one of the paths has too many bytes, too
@@ -20,16 +17,14 @@ use Rattle.std.specs.Cmp.Lexicographic.{slice_cmp}
 use Rattle.std.specs.List.Sorted.{IsStrictlySortedBy}
 use Rattle.std.specs.Map.{keys_of}
 use Rattle.std.specs.Ordering.{nat_cmp}
-use Rattle.std.specs.Prelude.{◌≡◌, ◌≢◌, ◌<◌, ◌++◌, [], ⊤, ℕ, true, List, length, codes, bytes_eq, if◌then◌else◌}
+use Rattle.std.specs.Prelude.{◌≡◌, ◌≢◌, ◌<◌, ⊤, ℕ, true, List, length, codes}
 use Rattle.std.specs.Prelude.{All, Contains, Some, Result, Ok, Err, is_some}
 use Rattle.package_lookup.specs.declared.known.Known.{Known}
 use Rattle.tree_spec.specs.Paths.{IsPath, HasDepth}
+use Rattle.vendor_spec.specs.Goals.{goal_of, most_path_bytes, most_path_segments}
 use Rattle.tree_vendor.specs.Copying.{Step, file_at}
 use Rattle.tree_vendor.specs.declared.planning.VendorFault.{VendorFault}
 use Rattle.tree_vendor.specs.declared.planning.VendorFault.TheVariants.{PathTooLong, TooManySegments, Memory}
-
-abbrev pub goal_of : List ℕ → List ℕ → List ℕ
-goal_of to path = (if bytes_eq to (codes "/") then [] else to) ++ path
 
 abbrev pub IsOfBytes : List ℕ → Type 0
 IsOfBytes path = All (λ b. b < 256) path
@@ -56,12 +51,6 @@ pub record ArePlanned (footprint : List (List ℕ)) (known : Known) (to : List �
   pub bytes : AreOfBytes footprint
 
 -- ---- why there is no plan
-
-abbrev pub most_path_bytes : ℕ
-most_path_bytes = 1024
-
-abbrev pub most_path_segments : ℕ
-most_path_segments = 64
 
 pub record IsTooLong (known : Known) (to path : List ℕ) : Type 0 where
   pub source : IsSource known path

@@ -5,8 +5,9 @@ ghost use Rattle.std.specs.Prelude.{◌≡◌, ◌≢◌, ◌++◌, ◌∷◌, [
 ghost use Rattle.std.specs.String.{string_bytes};
 ghost use Rattle.tree_model.specs.declared.path.PathFault.{PathFault};
 ghost use Rattle.tree_spec.specs.Paths.{IsPath};
-ghost use Rattle.tree_vendor.specs.Planning.{AreGoals, HasBadGoal, IsBad, IsOfBytes, goal_of};
+ghost use Rattle.tree_vendor.specs.Planning.{AreGoals, HasBadGoal, IsBad, IsOfBytes};
 ghost use Rattle.tree_vendor.specs.declared.planning.VendorFault.TheVariants.{PathTooLong, TooManySegments};
+ghost use Rattle.vendor_spec.specs.Goals.{goal_of};
 
 use crate::planning::{VendorFault, is_source};
 use package_lookup::Known;

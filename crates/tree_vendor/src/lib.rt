@@ -1,7 +1,7 @@
 //! What is copied of a generation's files into a folder of their own, and the copying.
 #![tactic(auto)]
 
-ghost use Rattle.tree_vendor.specs.Laws.{PlannedIsPlan, PlannedAreKept};
+ghost use Rattle.tree_vendor.specs.Laws.{FaultsAreOfTree, PlannedIsPlan, PlannedAreKept};
 
 mod copying;
 mod goals;
@@ -17,7 +17,11 @@ pub fn planned_is_plan()
 {}
 
 /// Of each source of a plan a file is kept.
-#[tactic(auto, using(crate::proofs::PlannedFiles::planned_are_kept))]
 pub fn planned_are_kept()
     ensures { PlannedAreKept }
+{}
+
+/// A copy's path has too much for the plan exactly where it has for the tree.
+pub fn faults_are_of_tree()
+    ensures { FaultsAreOfTree }
 {}

@@ -7,9 +7,7 @@ use package_lookup::Known;
 use primitives::{Listed, Memory};
 use std::alloc::Global;
 use tree_model::Path;
-
-/// The most bytes that the text of a path has.
-const MOST_PATH_BYTES: usize = 1024;
+use vendor_spec::MOST_PATH_BYTES;
 
 /// What is to be copied: the path of each file, and the path of its copy.
 pub type Plan = Listed<(Path, Path)>;

@@ -58,7 +58,7 @@ module _ (to : List ℕ) (to_is : IsPath to) (to_deep : to ≢ codes "/") where
   some_to = not_empty to_is.depth to to_is.segments
 
   -- below the folder paths stand above each other as without it
-  above_behind : (folder path : List ℕ) → IsPath folder → IsPath path → IsAbove (to ++ folder) (to ++ path) → IsAbove folder path
+  pub above_behind : (folder path : List ℕ) → IsPath folder → IsPath path → IsAbove (to ++ folder) (to ++ path) → IsAbove folder path
   above_behind folder path is is_path above =
       let start = begins_so folder is in
       let top : to ++ folder ≢ codes "/" = λ e. more_than_root to start.rest some_to (ap (λ f. to ++ f) (sym start.is) ∙ e) in
@@ -66,18 +66,18 @@ module _ (to : List ℕ) (to_is : IsPath to) (to_deep : to ≢ codes "/") where
       below_by_text folder longer.more path (not_empty is.depth folder is.segments) is_path
       (same_rest to path (folder ++ 47 ∷ longer.more) (longer.is ∙ append_assoc to folder (47 ∷ longer.more)))
 
-  to_above : (path : List ℕ) → IsPath path → IsPath (to ++ path) → IsAbove to (to ++ path)
+  pub to_above : (path : List ℕ) → IsPath path → IsPath (to ++ path) → IsAbove to (to ++ path)
   to_above path is goal =
       let start = begins_so path is in
       below_by_text to start.rest (to ++ path) some_to goal (ap (λ p. to ++ p) start.is)
 
   module _ (old : Tree) (is_old : IsTree old) (free : get old to ≡ None) where
-    record IsDone (tree : Tree) (done : List Pair) : Type 0 where
-      is_tree : IsTree tree
-      sources : (pair : Pair) → Contains done pair → get old pair.0 ≡ Some (Stored pair.1)
-      files : (pair : Pair) → Contains done pair → get tree (to ++ pair.0) ≡ Some (Stored pair.1)
-      stored : (path bytes : List ℕ) → IsPath path → get tree (to ++ path) ≡ Some (Stored bytes) → Contains done (path, bytes)
-      folders :
+    pub record IsDone (tree : Tree) (done : List Pair) : Type 0 where
+      pub is_tree : IsTree tree
+      pub sources : (pair : Pair) → Contains done pair → get old pair.0 ≡ Some (Stored pair.1)
+      pub files : (pair : Pair) → Contains done pair → get tree (to ++ pair.0) ≡ Some (Stored pair.1)
+      pub stored : (path bytes : List ℕ) → IsPath path → get tree (to ++ path) ≡ Some (Stored bytes) → Contains done (path, bytes)
+      pub folders :
           (path : List ℕ) → IsPath path → get tree (to ++ path) ≡ Some Directory
           → (pair : Pair) × Contains done pair × IsAbove path pair.0
 
@@ -88,7 +88,7 @@ module _ (to : List ℕ) (to_is : IsPath to) (to_deep : to ≢ codes "/") where
         let f : None ≡ Some Directory = sym free ∙ folder in
         absurd (cc)
 
-    at_start : IsDone old []
+    pub at_start : IsDone old []
     at_start = record {
       is_tree = is_old;
       sources = λ pair held. absurd (contains_none pair held);
@@ -112,8 +112,8 @@ module _ (to : List ℕ) (to_is : IsPath to) (to_deep : to ≢ codes "/") where
           absurd (cc)
 
       -- what stands at another path was there, or is a folder above the file
-      record Was (path : List ℕ) (entry : Entry) : Type 0 where
-        by : (get tree path ≡ Some entry) ⊎ (IsAbove path (to ++ pair.0) × (entry ≡ Directory))
+      pub record Was (path : List ℕ) (entry : Entry) : Type 0 where
+        pub by : (get tree path ≡ Some entry) ⊎ (IsAbove path (to ++ pair.0) × (entry ≡ Directory))
 
       was_by : (path : List ℕ) (entry : Entry) → path ≢ to ++ pair.0 → get middle path ≡ Some entry
           → (IsAbove path (to ++ pair.0) → ⊥) → (found : Option Entry) → get tree path ≡ found → Was path entry
@@ -123,7 +123,7 @@ module _ (to : List ℕ) (to_is : IsPath to) (to_deep : to ≢ codes "/") where
           let same : Some before ≡ Some entry = sym (placed.stays path before other f) ∙ e in
           record { by = inl (f ∙ same) }
 
-      was : (path : List ℕ) (entry : Entry) → path ≢ to ++ pair.0 → get middle path ≡ Some entry → Was path entry
+      pub was : (path : List ℕ) (entry : Entry) → path ≢ to ++ pair.0 → get middle path ≡ Some entry → Was path entry
       was path entry other e =
           elim (above_or_not path (to ++ pair.0) goal) [
             | inl above ↦ (let same : Some Directory ≡ Some entry = sym (placed.above path above) ∙ e in
@@ -173,7 +173,7 @@ module _ (to : List ℕ) (to_is : IsPath to) (to_deep : to ≢ codes "/") where
           let f : Some Directory ≡ Some (Stored pair.1) = sym e ∙ (ap (get middle) same ∙ placed.here) in absurd (cc)
       folder_at path is e (inr apart_from) = folder_by path is (was (to ++ path) Directory apart_from e)
 
-      next : IsDone middle (done ++ pair ∷ [])
+      pub next : IsDone middle (done ++ pair ∷ [])
       next = record {
         is_tree = placed_tree tree (to ++ pair.0) (Stored pair.1) middle is_done.is_tree goal no_folder placed;
         sources = λ other held. elim (Contains-append_cases done (pair ∷ []) other held) [
@@ -319,7 +319,7 @@ copied_is_copy old after below to paths pairs is_old to_is to_deep free plan wri
 -- ---- what isn't touched
 
 -- of two that stand above one path, one is above the other
-comparable : (some other path : List ℕ) → IsAbove some path → IsAbove other path
+pub comparable : (some other path : List ℕ) → IsAbove some path → IsAbove other path
     → (some ≡ other) ⊎ (IsAbove some other ⊎ IsAbove other some)
 comparable _ other _ (parent_of some path p) above =
     elim (above_by_parent other some path p above) [

@@ -5,9 +5,9 @@ use Rattle.std.proofs.lemmas.Slice.Eq.{bytes_eq-Decides}
 use Rattle.std.specs.Bool.{Decides}
 use Rattle.std.specs.Prelude.{codes, bytes_eq, if◌then◌else◌}
 use Rattle.tree_spec.proofs.ByteLists.{text_same_or_not}
-use Rattle.tree_spec.proofs.PathParts.{IsFront, at_root, at_other, front_of, joined_at, not_empty, not_root}
+use Rattle.tree_spec.proofs.PathParts.{IsFront, at_root, at_other, front_of, joined_at, last_of, not_empty, not_root}
 use Rattle.tree_spec.specs.Paths.{IsPath, IsSegment, HasDepth, root, child, joined}
-use Rattle.tree_vendor.specs.Planning.{goal_of}
+use Rattle.vendor_spec.specs.Goals.{goal_of, most_path_bytes, most_path_segments}
 
 -- the root has no depth
 root_depth : (depth : ℕ) (text : List ℕ) → HasDepth depth text → text ≡ codes "/" → depth ≡ 0
@@ -66,8 +66,8 @@ goal_behind to path deep = ap (λ front. front ++ path) (by (bytes_eq to (codes 
     by false d = refl
 
 -- what has few bytes and is no path has too many segments
-pub too_deep : (text : List ℕ) (depth : ℕ) → HasDepth depth text → (IsPath text → ⊥) → (1024 < length text → ⊥)
-    → 64 < depth
+pub too_deep : (text : List ℕ) (depth : ℕ) → HasDepth depth text → (IsPath text → ⊥)
+    → (most_path_bytes < length text → ⊥) → most_path_segments < depth
 too_deep text depth segments bad short =
     elim (cases_lt 64 depth) [
       | inl more ↦ more
@@ -81,3 +81,25 @@ too_deep text depth segments bad short =
         }))
       ]
     ]
+
+-- ---- a path has one depth
+
+one_above : (above other front : List ℕ) (depth low : ℕ) → HasDepth depth above → HasDepth low other → IsFront above front
+    → IsFront other front → above ≡ other
+one_above above other front depth low is too (at_root _ _ top none) (at_root _ _ top_too none_too) = top ∙ sym top_too
+one_above above other front depth low is too (at_root _ _ top none) (at_other _ _ deep same) =
+    absurd (not_empty low other too (sym same ∙ none))
+one_above above other front depth low is too (at_other _ _ deep same) (at_root _ _ top none) =
+    absurd (not_empty depth above is (sym same ∙ none))
+one_above above other front depth low is too (at_other _ _ deep same) (at_other _ _ deep_too same_too) = sym same ∙ same_too
+
+pub one_depth : (depth other : ℕ) (text : List ℕ) → HasDepth depth text → HasDepth other text → depth ≡ other
+one_depth _ other text (root _ e) too = sym (root_depth other text too e)
+one_depth _ other text (child low deeper parent name _ segments segment more e) too =
+    let has = front_of parent name in
+    let split : text ≡ has.front ++ 47 ∷ name = e ∙ has.text_is in
+    let last = last_of other text has.front name too (not_root text has.front name split segment) split segment.no_slash in
+    let same = one_above last.parent parent has.front last.above low last.segments segments last.is_front has.is_front in
+    let depths : low ≡ last.above = one_depth low last.above parent segments (subst (HasDepth last.above) same last.segments) in
+    let own = last.deeper in
+    omega (arith, more, own, depths)
