@@ -298,8 +298,7 @@ module _ (words : List (List ℕ)) (to : List ℕ) (config : Config) (before mid
         → IfSome held (λ tree. (later : Tree) × Outcome words tree 0 (line ∷ []) later × (told ≡ Some later))
     outcome_told None told of ready written = tt
     outcome_told (Some tree) told of ready written =
-        let own = as_copies tree told written in
-        (
+        let own = as_copies tree told written in (
           own.after,
           record {
             files = copied_files to (pairs copies.known copies.plan);

@@ -349,7 +349,6 @@ one_run_refusal words tree why because (runs.by_tree command config reason is_co
 one_run_refusal words tree why because (runs.by_tree command config reason is_config is) (runs.by_tree command_too second other is_too too) =
     let same = one_config words tree command command_too config second is_config is_too in
     one_refusal tree config command why because is (same_refusals tree because same too)
-
 one_run_refusal words tree why because (runs.by_copies to config map reason asks is generates refused_so) (runs.by_words other too) = absurd (words_refused_or_config words tree other Vendor config too is)
 one_run_refusal words tree why because (runs.by_copies to config map reason asks is generates refused_so) (runs.by_project other too) = absurd (refused_or_config words tree other Vendor config too is)
 one_run_refusal words tree why because (runs.by_copies to config map reason asks is generates refused_so) (runs.by_tree command second other is_too too) =

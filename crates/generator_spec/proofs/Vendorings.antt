@@ -69,12 +69,11 @@ placed_by : (to : List ℕ) (pairs files : List Pair) (tree after : Tree) → Wr
 placed_by to [] _ _ _ (nothing tree) e = refl
 placed_by to (pair ∷ pairs) _ _ _ (nothing tree) e = absurd (cc)
 placed_by to [] _ _ _ (one_more tree middle after file more placed later) e = absurd (cc)
-placed_by to (pair ∷ pairs) _ _ _ (one_more tree middle after file more placed later) e =
-    (
-      middle,
-      placed_at to tree middle file pair more pairs e placed,
-      placed_by to pairs more middle after later (goals_behind to file pair more pairs e),
-    )
+placed_by to (pair ∷ pairs) _ _ _ (one_more tree middle after file more placed later) e = (
+  middle,
+  placed_at to tree middle file pair more pairs e placed,
+  placed_by to pairs more middle after later (goals_behind to file pair more pairs e),
+)
 
 -- copies that are written are files that are placed
 pub files_placed : (to : List ℕ) (pairs : List Pair) (tree after : Tree) → Written tree (goals to pairs) after

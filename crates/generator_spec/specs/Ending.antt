@@ -305,7 +305,6 @@ pub data Says (words : List (List ℕ)) (before after : FolderState) (status : �
       → status ≡ write_fault_status → lines ≡ write_fault_line ∷ []
       → after.look_faults ≡ before.look_faults → Rose before.write_faults after.write_faults
       → Says words before after status lines
-
   copy_fault :
       CanCopy words → IfSome before.holds (λ tree. StopsCopying words tree after.holds)
       → status ≡ write_fault_status → lines ≡ write_fault_line ∷ []
