@@ -11,3 +11,4 @@ pub mod LinesWhole
 pub mod Standings
 pub mod ShapedSessions
 pub mod FaultsOfEdits
+pub mod SessionLooking

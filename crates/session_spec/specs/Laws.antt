@@ -15,7 +15,8 @@ use Rattle.session_spec.specs.Conversations.{Answers, ends, refuses, stops, end_
 use Rattle.session_spec.specs.EditFaults.{CanRefuseEdit}
 use Rattle.session_spec.specs.Edits.{Draft, can_put, put_file, edited, then_edited}
 use Rattle.session_spec.specs.Replies.{IsRefused, Replies, IsAccepted, Leads, AllAccepted}
-use Rattle.session_spec.specs.SessionRuns.{SessionComesTo, IsStanding, IsSessionShaped}
+use Rattle.session_spec.specs.SessionLooks.{IsTried, IsSessionLook}
+use Rattle.session_spec.specs.SessionRuns.{OpensAt, SessionComesTo, IsStanding, IsSessionShaped}
 use Rattle.session_spec.specs.SessionStates.{SessionState, draft_of, config_with, IsCurrent}
 use Rattle.session_spec.specs.Talks.{Standing, begun, turn_of, Talks}
 
@@ -155,6 +156,17 @@ abbrev pub TalksStayCurrent : Type 0
 TalksStayCurrent =
     (at later : Standing) (out : List ℕ) → IsCurrent at.state → Talks at out later → IsCurrent later.state
 
+-- own law: an edit to which an input comes is one of a state whose map is generated for its tree and config
+abbrev pub TriedAreCurrent : Type 0
+TriedAreCurrent =
+    (tree : Tree) (first state : SessionState) (input : List ℕ) (edit : List Change) → OpensAt tree first
+    → IsTried (begun first input) state edit → IsCurrent state
+
+-- own law: where a session looks for the first bytes of an input, it looks for it all
+abbrev pub LooksStay : Type 0
+LooksStay =
+    (tree : Tree) (taken more path : List ℕ) → IsSessionLook tree taken path → IsSessionLook tree (taken ++ more) path
+
 -- a session on a tree says one text to an input at most, with one status
 abbrev pub OneSession : Type 0
 OneSession =
@@ -171,8 +183,8 @@ pub record HasSession (tree : Tree) (input : List ℕ) : Type 0 where
 abbrev pub SomeSession : Type 0
 SomeSession = (tree : Tree) (input : List ℕ) → HasSession tree input
 
--- whatever the tree and the input, what it says is the line of the opening, replies and one of its ends, with the status
--- of this end; or a refusal of `refresh`
+-- whatever the tree and the input, what it says is the line of the opening, replies and one of its ends, with the
+-- status of this end; or a refusal of `refresh`
 abbrev pub SessionsAreShaped : Type 0
 SessionsAreShaped =
     (tree : Tree) (input text : List ℕ) (status : ℕ) → SessionComesTo tree input status text

@@ -6,6 +6,8 @@ pub mod SessionLines
 pub mod Conversations
 pub mod Talks
 pub mod TakenInput
+pub mod EditLooks
 pub mod SessionRuns
+pub mod SessionLooks
 pub mod Laws
 pub mod WorkedExamples

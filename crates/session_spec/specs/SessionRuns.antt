@@ -3,12 +3,12 @@
 --     OpensAt tree state              a session is opened with this state
 --     opening_line state              what is said of it then
 --     SessionComesTo tree input status text     what a session on this tree says to this input, and its exit status
---     RepliesTo tree taken text       the line of the opening and replies to lines of these bytes, or nothing yet; of those
---                                     bytes that the limit allows
+--     RepliesTo tree taken text       the line of the opening and replies to lines of these bytes, as far as the limit
+--                                     allows, or nothing yet
 --     RepliesToAll tree taken text    so, to each line that stands whole in them
 --     IsStanding tree taken text at   where a session stands that took these bytes and said this
---     IsAwaited tree taken            the last of these bytes were taken, all at once, where what came before them didn't
---                                     end the session
+--     IsAwaited tree taken            the last of these bytes were taken, all at once, where what came before them
+--                                     didn't end the session
 --     AsksOnce old after              the folder was asked for the project's path, and then for none twice
 --     MapsServe tree input            each map that such a session can show serves the tree and config of its state
 --     IsSessionShaped status text     status and text belong together, whatever the folder tells
@@ -69,7 +69,8 @@ pub data RepliesTo (tree : Tree) (taken : List ℕ) : List ℕ → Type 0 where
   unopened : RepliesTo tree taken []
   opened :
       (state : SessionState) (out : List ℕ) (later : Standing) → OpensAt tree state
-      → Talks (begun state (take (limit_number Session) taken)) out later → RepliesTo tree taken (opening_line state ++ out)
+      → Talks (begun state (take (limit_number Session) taken)) out later
+      → RepliesTo tree taken (opening_line state ++ out)
 
 pub data RepliesToAll (tree : Tree) (taken : List ℕ) : List ℕ → Type 0 where
   opened :
