@@ -11,6 +11,7 @@ use Rattle.generator_spec.specs.Lines.{line_of}
 use Rattle.package_lookup.specs.Looked.{kept_at}
 use Rattle.trace_spec.specs.Modules.{Config}
 use Rattle.session_spec.specs.declared.Change.{Change}
+use Rattle.session_spec.specs.EditLooks.{IsEditLook}
 use Rattle.session_spec.specs.Edits.{Draft, edited}
 use Rattle.session_spec.specs.declared.EditFault.{EditFault}
 use Rattle.session_spec.specs.Replies as replies
@@ -23,7 +24,7 @@ use Rattle.edit_session.specs.declared.session.Session.{Session}
 use Rattle.edit_session.specs.declared.stop.EditStop.{EditStop}
 use Rattle.edit_session.specs.declared.stop.EditStop.TheVariants as stop
 use Rattle.session_talk.specs.EditorLooks.{LookState, AsksNew, AsksAndKeeps, AsksSome, AsksKeeping, EditAsks}
-use Rattle.session_talk.specs.Editors.{EditorState, Seen, IsReplied, EditsTold, Edits, Shows}
+use Rattle.session_talk.specs.Editors.{EditorState, AsksFor, Seen, IsReplied, EditsTold, Comes, Edits, Shows}
 use Rattle.session_talk.specs.declared.editor.EditorFault.{EditorFault}
 use Rattle.session_talk.specs.declared.editor.EditorFault.TheVariants.{ReadFault, Memory}
 use Rattle.session_talk.proofs.AskLemmas.{some_of_keeping}
@@ -49,7 +50,7 @@ replies_accepted state next edit line is =
 
 module _ (before after : FolderState) (old new : Session) (edit : List Change) (view : EditorState) (is : IsViewOf before old view) where
   abbrev left_view : EditorState
-  left_view = record { told = view.told; faults = after.look_faults }
+  left_view = record { told = view.told; faults = after.look_faults; asked = after.asked }
 
   abbrev Stays : Tree → Type 0
   Stays tree = (state : SessionState) → IsSessionOf tree old state → IsSessionOf tree new state
@@ -61,6 +62,21 @@ module _ (before after : FolderState) (old new : Session) (edit : List Change) (
     holds = prepares.looks.looks.tree ∙ stands.holds;
     is_state = at_tree Stays before.holds stands.tree stands.holds prepares.stays state stands.is_state;
   }
+
+  abbrev LooksThere : List ℕ → Tree → Type 0
+  LooksThere path tree = (state : SessionState) → IsSessionOf tree old state → IsEditLook state edit path
+
+  looks_told : (result : Result (Unit {0}) EditStop) → Prepares before old edit result after new → (told : Option SessionState) → IsToldBy before old told
+      → IfSome told (λ state. IfSome view.asked (λ list. AsksFor (IsEditLook state edit) list after.asked))
+  looks_told result prepares None none = tt
+  looks_told result prepares (Some state) stands =
+      subst (λ (t : Option (List (List ℕ))). IfSome t (λ list. AsksFor (IsEditLook state edit) list after.asked)) (sym is.asked)
+      (if_some before.asked (λ list asks. record {
+        more = asks.more;
+        is = asks.asked;
+        among = All-weaker (λ path. IfSome before.holds (LooksThere path)) (IsEditLook state edit)
+            (λ path seen. at_tree (LooksThere path) before.holds stands.tree stands.holds seen state stands.is_state) asks.more asks.among;
+      }) prepares.looks.asked)
 
   -- ---- what is refused
 
@@ -79,30 +95,30 @@ module _ (before after : FolderState) (old new : Session) (edit : List Change) (
       is_told = refl;
     }
 
-    says_why : (line : List ℕ) (result : Result (List ℕ) EditorFault) → IsWhy line → after.look_faults ≡ before.look_faults → SaysLine line result → Edits view edit result left_view
+    says_why : (line : List ℕ) (result : Result (List ℕ) EditorFault) → IsWhy line → after.look_faults ≡ before.look_faults → SaysLine line result → Comes view edit result left_view
     says_why line (Ok text) why quiet says =
         subst (λ (l : List ℕ). EditsTold view edit l left_view) (sym says)
         (record { replied = refused_replied line why view.told is.told; untold = λ e. e; quiet = quiet ∙ sym is.faults })
     says_why line (Err ReadFault) why quiet says = absurd says
     says_why line (Err Memory) why quiet says = quiet ∙ sym is.faults
 
-  stopped_edits : (fault : EditStop) (result : Result (List ℕ) EditorFault) → Prepares before old edit (Err fault) after new → SaysStop fault result → Edits view edit result left_view
+  stopped_edits : (fault : EditStop) (result : Result (List ℕ) EditorFault) → Prepares before old edit (Err fault) after new → SaysStop fault result → Comes view edit result left_view
   stopped_edits (stop.Change fault) result prepares says =
       says_why (stop.Change fault) prepares (fault_line fault) result prepares.refused (prepares.looks.looks.quiet (λ e. cc)) says
   stopped_edits (stop.Generation why) result prepares says =
       says_why (stop.Generation why) prepares (line_of why) result prepares.refused (prepares.looks.looks.quiet (λ e. cc)) says
   stopped_edits stop.ReadFault result prepares says =
-      subst (λ (r : Result (List ℕ) EditorFault). Edits view edit r left_view) (sym says)
+      subst (λ (r : Result (List ℕ) EditorFault). Comes view edit r left_view) (sym says)
       (subst (λ (n : ℕ). Rose n after.look_faults) (sym is.faults) (prepares.looks.looks.cause refl))
   stopped_edits stop.Memory result prepares says =
-      subst (λ (r : Result (List ℕ) EditorFault). Edits view edit r left_view) (sym says) (prepares.looks.looks.quiet (λ e. cc) ∙ sym is.faults)
+      subst (λ (r : Result (List ℕ) EditorFault). Comes view edit r left_view) (sym says) (prepares.looks.looks.quiet (λ e. cc) ∙ sym is.faults)
 
   pub stopped_seen : (fault : EditStop) (result : Result (List ℕ) EditorFault) → Prepares before old edit (Err fault) after new → SaysStop fault result
       → Seen (IsViewOf after new) (λ last. Edits view edit result last)
   stopped_seen fault result prepares says = record {
     at = left_view;
-    is = record { told = told_still (Err fault) prepares view.told is.told; faults = refl };
-    holds = stopped_edits fault result prepares says;
+    is = record { told = told_still (Err fault) prepares view.told is.told; faults = refl; asked = refl };
+    holds = record { comes = stopped_edits fault result prepares says; looks = looks_told (Err fault) prepares view.told is.told };
   }
 
   -- ---- what is accepted
@@ -140,12 +156,16 @@ module _ (before after : FolderState) (old new : Session) (edit : List Change) (
     accepted_seen result says =
         let next = next_told view.told is.told in
         let quiet : after.look_faults ≡ view.faults = prepares.looks.looks.quiet (λ e. cc) ∙ sym is.faults in
-        record { at = record { told = next.later; faults = after.look_faults }; is = record { told = next.is_told; faults = refl }; holds = edits result says next quiet }
+        record {
+          at = record { told = next.later; faults = after.look_faults; asked = after.asked };
+          is = record { told = next.is_told; faults = refl; asked = refl };
+          holds = record { comes = edits result says next quiet; looks = looks_told (Ok tt) prepares view.told is.told };
+        }
       where
         edits : (result : Result (List ℕ) EditorFault) → SaysLine (accepted_line (shown_counts closed)) result → (next : NextTold view.told) → after.look_faults ≡ view.faults
-            → Edits view edit result (record { told = next.later; faults = after.look_faults })
+            → Comes view edit result (record { told = next.later; faults = after.look_faults; asked = after.asked })
         edits (Ok text) says next quiet =
-            subst (λ (l : List ℕ). EditsTold view edit l (record { told = next.later; faults = after.look_faults })) (sym says)
+            subst (λ (l : List ℕ). EditsTold view edit l (record { told = next.later; faults = after.look_faults; asked = after.asked })) (sym says)
             (record { replied = next.replied; untold = next.untold; quiet = quiet })
         edits (Err ReadFault) says next quiet = absurd says
         edits (Err Memory) says next quiet = quiet

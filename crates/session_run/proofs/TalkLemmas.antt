@@ -11,6 +11,7 @@ use Rattle.generator_spec.specs.Statuses.{memory_status, write_fault_status}
 use Rattle.session_input.specs.declared.reader.SessionInput.{SessionInput}
 use Rattle.session_input.specs.Readers.{Waiting, waiting, IsFresh}
 use Rattle.session_input.proofs.ReaderLemmas.{takes_none}
+use Rattle.session_spec.specs.SessionLooks.{IsTriedLook}
 use Rattle.session_spec.specs.SessionStates.{SessionState}
 use Rattle.session_spec.specs.Talks.{Standing, begun, still}
 use Rattle.edit_session.specs.declared.session.Session.{Session}
@@ -18,6 +19,7 @@ use Rattle.session_talk.specs.EditorLooks.{AsksSome}
 use Rattle.session_talk.specs.Editors.{EditorState, Seen}
 use Rattle.session_talk.specs.Talking as talking
 use Rattle.session_talk.specs.Talking.{now_at, Converses}
+use Rattle.session_talk.proofs.LookLemmas.{nothing_for}
 use Rattle.session_run.specs.Editing.{IsViewOf, look_state, LooksSome}
 use Rattle.session_run.specs.Sessions.{fresh, TalksOn, opened_line, OpenedEnds, cut_off, replies}
 
@@ -65,6 +67,7 @@ wants_reader before source out gone result is = record {
   takes = takes_none source;
   few = omega arith;
   awaited = if_all before.told (λ state. inl refl);
+  looks = if_all before.told (λ state. nothing_for (IsTriedLook state (take (limit_number Limited) [])) before.asked before.asked refl);
   stops = talking.said memory_status memory_line
       (talking.memory [] (record { editor_is = refl; source_is = refl }) (if_all before.told (λ state. record { later = begun_alone state; talks = still (begun_alone state) })) refl refl) is;
 }

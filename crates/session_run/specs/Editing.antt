@@ -1,6 +1,6 @@
 -- A session as one that makes edits.
 --     IsToldBy folder session told    a tree that the folder tells stands behind the session, and this is its state
---     IsViewOf folder session view    the same, with the looks that failed
+--     IsViewOf folder session view    the same, with the looks that failed and the paths that the folder was asked for
 --     look_state references folder session    what the folder tells, and what the session keeps of it
 --     LooksSome references before old after new       what calls ask that may have ended with a fault
 --     SaysLine line result            the line is said, or memory is wanting
@@ -33,6 +33,7 @@ IsToldBy folder session (Some state) = StandsOn folder session state
 pub record IsViewOf (folder : FolderState) (session : Session) (view : EditorState) : Type 0 where
   pub told : IsToldBy folder session view.told
   pub faults : view.faults ≡ folder.look_faults
+  pub asked : view.asked ≡ folder.asked
 
 abbrev pub look_state : List ℕ → FolderState → Session → LookState
 look_state references folder session =

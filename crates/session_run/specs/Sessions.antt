@@ -5,7 +5,9 @@
 --     OpensLine session out middle    what is generated is said
 --     OpenedEnds session before after source later out gone result    a session that is opened says what is generated,
 --                                     and replies to the lines of an input
-use Rattle.std.specs.Prelude.{◌≡◌, ◌++◌, [], ℕ, List, None, option_map}
+--     HoldsSession before after source later out gone result          a session ends, and from its opening on the folder
+--                                     was asked for no path twice
+use Rattle.std.specs.Prelude.{◌≡◌, ◌++◌, [], ℕ, List, None, IfSome, option_map}
 use Rattle.tree_spec.specs.Counts.{Rose}
 use Rattle.tree_spec.specs.Limits.{limit_number}
 use Rattle.tree_spec.specs.States.{FolderState, SourceState, SinkState}
@@ -16,6 +18,8 @@ use Rattle.generator_spec.specs.Ending.{Ends, Gives, TellsRefusal}
 use Rattle.generator_spec.specs.Lines.{memory_line, read_fault_line}
 use Rattle.generator_spec.specs.Statuses.{memory_status, read_fault_status, write_fault_status}
 use Rattle.session_spec.specs.Replies.{accepted_line}
+use Rattle.session_spec.specs.SessionLooks.{AsksFresh}
+use Rattle.session_spec.specs.SessionRuns.{SessionEnds}
 use Rattle.session_input.specs.Readers.{Waiting}
 use Rattle.edit_session.specs.SessionTrees.{shown_counts}
 use Rattle.edit_session.specs.declared.session.Session.{Session as Opened}
@@ -55,3 +59,8 @@ pub data OpenedEnds (session : Opened) (before after : FolderState) (source late
       → Seen (IsViewOf after closed) (λ last. TalksOn view source middle last later gone result))
       → AsksSome (look_state [] before session) (look_state [] after closed)
       → OpenedEnds session before after source later out gone result
+
+pub record HoldsSession (before after : FolderState) (source later : SourceState) (out gone : SinkState)
+    (result : ℕ) : Type 0 where
+  pub ends : SessionEnds before after source later out gone result
+  pub fresh : IfSome before.asked (λ old. AsksFresh before.holds ends.taken old after)

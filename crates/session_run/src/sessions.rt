@@ -3,10 +3,10 @@ ghost use Rattle.config_spec.specs.declared.Command.TheVariants.{Refresh};
 ghost use Rattle.generation.specs.Generating.{AsksNoPathTwice};
 ghost use Rattle.generator_spec.specs.Asked.{IsConfigAt};
 ghost use Rattle.generator_spec.specs.Ending.{Ends};
-ghost use Rattle.session_spec.specs.SessionRuns.{SessionEnds, refresh_words};
+ghost use Rattle.session_spec.specs.Openings.{refresh_words};
 ghost use Rattle.session_talk.specs.Editors.{EditorState, Seen};
 ghost use Rattle.session_run.specs.Editing.{IsViewOf, LooksSome};
-ghost use Rattle.session_run.specs.Sessions.{OpenedEnds, RefusedEnds, TalksOn};
+ghost use Rattle.session_run.specs.Sessions.{HoldsSession, OpenedEnds, RefusedEnds, TalksOn};
 
 use crate::session_editor::SessionEditor;
 use edit_session::Session;
@@ -34,7 +34,7 @@ pub fn session<F: Folder, I: Source, O: Sink, L: Ledger>(
     steps: &mut Steps<L>,
 ) -> u8
     ensures ends { IsConfigAt refresh_words Refresh config (F.state folder.old)
-        → SessionEnds (F.state folder.old) (F.state folder.new) (I.state input.old) (I.state input.new)
+        → HoldsSession (F.state folder.old) (F.state folder.new) (I.state input.old) (I.state input.new)
         (O.state out.old) (O.state out.new) result }
     ensures asked { IfSome (F.state folder.old).asked (λ old. AsksNoPathTwice old (F.state folder.new)) }
 {

@@ -27,7 +27,8 @@ use Rattle.generator_spec.proofs.Generations.{some_generation, one_text}
 use Rattle.generator_spec.proofs.Outcomes.{one_run_refusal, refused_or_written}
 use Rattle.session_spec.specs.Conversations.{Answers}
 use Rattle.session_spec.specs.Laws.{SameAnswer, OneSession, SomeSession, HasSession}
-use Rattle.session_spec.specs.SessionRuns.{refresh_words, OpensAt, opens, opening_line, SessionComesTo, refused, replied}
+use Rattle.session_spec.specs.Openings.{refresh_words, OpensAt, opens, opening_line}
+use Rattle.session_spec.specs.SessionRuns.{SessionComesTo, refused, replied}
 use Rattle.session_spec.specs.SessionStates.{SessionState, Counts, counts_of, IsGenerated}
 use Rattle.session_spec.proofs.Conversing.{one_answer}
 use Rattle.session_spec.proofs.Replying.{one_count}

@@ -16,7 +16,8 @@ use Rattle.session_spec.specs.EditFaults.{CanRefuseEdit}
 use Rattle.session_spec.specs.Edits.{Draft, can_put, put_file, edited, then_edited}
 use Rattle.session_spec.specs.Replies.{IsRefused, Replies, IsAccepted, Leads, AllAccepted}
 use Rattle.session_spec.specs.SessionLooks.{IsTried, IsSessionLook}
-use Rattle.session_spec.specs.SessionRuns.{OpensAt, SessionComesTo, IsStanding, IsSessionShaped}
+use Rattle.session_spec.specs.Openings.{OpensAt}
+use Rattle.session_spec.specs.SessionRuns.{SessionComesTo, IsStanding, IsSessionShaped}
 use Rattle.session_spec.specs.SessionStates.{SessionState, draft_of, config_with, IsCurrent}
 use Rattle.session_spec.specs.Talks.{Standing, begun, turn_of, Talks}
 

@@ -7,7 +7,8 @@ pub mod Conversations
 pub mod Talks
 pub mod TakenInput
 pub mod EditLooks
-pub mod SessionRuns
+pub mod Openings
 pub mod SessionLooks
+pub mod SessionRuns
 pub mod Laws
 pub mod WorkedExamples

@@ -10,7 +10,7 @@ use Rattle.generator_spec.specs.Lines.{end_of_line, memory_line, read_fault_line
 use Rattle.generator_spec.specs.Statuses.{memory_status, read_fault_status}
 use Rattle.session_spec.specs.declared.Change.{Change}
 use Rattle.session_spec.specs.Conversations.{map_reply}
-use Rattle.session_talk.specs.Editors.{EditorState, Seen, EditsTold, Shows}
+use Rattle.session_talk.specs.Editors.{EditorState, Seen, EditsTold, EditsLook, Shows}
 use Rattle.session_talk.specs.Talking.{Gave, CutOff, GivesReply, Makes, replied, fails, wants, ShowsMap, shown, lost}
 use Rattle.session_talk.proofs.TalkLemmas.{give_then, gives_then}
 
@@ -28,14 +28,14 @@ said_line {status} {result} {out} {gone} e is = subst (λ (l : List ℕ). Ends s
 -- ---- edits
 
 module _ (before : EditorState) (edit : List Change) (out : SinkState) (after : EditorState) (out_after : SinkState) where
-  pub makes_replied : (line : List ℕ) (result : Option ℕ) → EditsTold before edit line after → GivesReply line out out_after result → Makes before edit out after out_after result
-  makes_replied line result edits gives = replied line edits gives
+  pub makes_replied : (line : List ℕ) (result : Option ℕ) → EditsTold before edit line after → EditsLook before edit after → GivesReply line out out_after result → Makes before edit out after out_after result
+  makes_replied line result edits looks gives = replied line edits looks gives
 
-  pub makes_fault : (status : ℕ) → Rose before.faults after.faults → Ends read_fault_status read_fault_line out out_after status → Makes before edit out after out_after (Some status)
-  makes_fault status rose is = fails status refl rose is
+  pub makes_fault : (status : ℕ) → Rose before.faults after.faults → EditsLook before edit after → Ends read_fault_status read_fault_line out out_after status → Makes before edit out after out_after (Some status)
+  makes_fault status rose looks is = fails status refl rose looks is
 
-  pub makes_nothing : (status : ℕ) → after.faults ≡ before.faults → Ends memory_status memory_line out out_after status → Makes before edit out after out_after (Some status)
-  makes_nothing status quiet is = wants status refl quiet is
+  pub makes_nothing : (status : ℕ) → after.faults ≡ before.faults → EditsLook before edit after → Ends memory_status memory_line out out_after status → Makes before edit out after out_after (Some status)
+  makes_nothing status quiet looks is = wants status refl quiet looks is
 
 pub ruleset making = (makes_replied, makes_fault, makes_nothing)
 

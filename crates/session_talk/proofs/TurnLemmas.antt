@@ -1,6 +1,6 @@
 -- What a turn comes to.
 use Rattle.std.proofs.Common.{◌∷◌, [], ◌≡◌, ◌≤◌, ◌++◌, ℕ, List, length, Option, Some, None, refl, sym, ◌∙◌, subst, inl, inr, arith}
-use Rattle.std.specs.Prelude.{◌+◌, IfSome}
+use Rattle.std.specs.Prelude.{◌+◌, take, IfSome}
 use Rattle.tree_spec.specs.Counts.{Rose}
 use Rattle.tree_spec.specs.Limits.{limit_number}
 use Rattle.tree_spec.specs.States.{SourceState, SinkState}
@@ -13,13 +13,15 @@ use Rattle.session_spec.specs.Conversations.{Answers, makes, holds, shows, ends,
 use Rattle.session_spec.specs.SessionLines as lines
 use Rattle.session_spec.specs.SessionLines.{changes, begins, commits, shows_map, ends_session}
 use Rattle.session_input.specs.Readers.{Waiting}
+use Rattle.session_spec.specs.SessionLooks.{IsTriedLook}
 use Rattle.session_spec.specs.SessionStates.{SessionState}
 use Rattle.session_spec.specs.Talks.{turn_of}
 use Rattle.session_spec.proofs.Standings.{answers_ended, answers_refused}
-use Rattle.session_talk.specs.Editors.{EditorState, IsReplied}
-use Rattle.session_talk.specs.Talking.{Now, now_at, StandsAt, OrderedAt, GoesOn, IsOrdered}
+use Rattle.session_talk.specs.Editors.{EditorState, AsksFor, EditsLook, IsReplied}
+use Rattle.session_talk.specs.Talking.{Now, now_at, StandsAt, OrderedAt, Looks, GoesOn, IsOrdered}
 use Rattle.session_talk.specs.Talking.{RepliesFront, IsLastLine, at_end, at_line, IsQuiet, Converses, GivesReply, TellsEnd, Makes, replied, fails, wants, ShowsMap, shown, lost, Turns}
-use Rattle.session_talk.proofs.TalkLemmas.{if_told, give_then, replies_front, ends_memory, ends_look_fault, ends_outcome, ends_cut_off, answers_input, answers_taken, stands_made, stands_shown, stands_collected, held_turn}
+use Rattle.session_talk.proofs.LookLemmas.{looks_here, looks_then}
+use Rattle.session_talk.proofs.TalkLemmas.{if_told, two_told, give_then, replies_front, ends_memory, ends_look_fault, ends_outcome, ends_cut_off, answers_input, answers_taken, stands_made, stands_shown, stands_collected, held_turn}
 
 module _ (first now : Now) (number : ℕ) (order : lines.Order) (goes : IsOrdered number order first now) where
   abbrev Ordering : SessionState → Type 0
@@ -31,6 +33,15 @@ module _ (first now : Now) (number : ℕ) (order : lines.Order) (goes : IsOrdere
   few_taken : length goes.taken ≤ limit_number Session + 1
   few_taken = let fewer = few in omega (arith, fewer)
 
+  looks_here_now : Looks first (take (limit_number Session) goes.taken) now.editor.asked
+  looks_here_now = looks_here first goes.taken now.editor.asked few goes.looks
+
+  looks_made : (edit : List Change) → ((state : SessionState) (is : Ordering state) → turn_of is.at ≡ makes edit is.rest) → (editor : EditorState) → EditsLook now.editor edit editor → Looks first goes.taken editor.asked
+  looks_made edit does editor edits =
+      two_told first.editor.told Ordering (λ state. IfSome first.editor.asked (λ old. AsksFor (IsTriedLook state goes.taken) old now.editor.asked))
+      (λ state. IfSome first.editor.asked (λ old. AsksFor (IsTriedLook state goes.taken) old editor.asked))
+      (λ state at looks. looks_then state goes.taken goes.text number order now at edit (does state at) first.editor.asked editor edits looks) goes.stands goes.looks
+
   quiet : IsQuiet first now.editor now.source
   quiet = record { editor_is = goes.quiet_editor; source_is = goes.quiet_source }
 
@@ -38,13 +49,13 @@ module _ (first now : Now) (number : ℕ) (order : lines.Order) (goes : IsOrdere
   front_told = if_told first.editor.told Ordering (λ state. RepliesFront state goes.taken goes.text) (λ state is. replies_front state goes.text is.at goes.taken few is.talks) goes.stands
 
   pub memory_turns : (after : SinkState) (status : ℕ) → Ends memory_status memory_line now.out after status → Converses first now.editor now.source after status
-  memory_turns after status is = ends_memory first now.editor now.source goes.taken goes.takes goes.awaited few_taken now.out after goes.text goes.said goes.quiet_out status quiet front_told is
+  memory_turns after status is = ends_memory first now.editor now.source goes.taken goes.takes goes.awaited few_taken looks_here_now now.out after goes.text goes.said goes.quiet_out status quiet front_told is
 
   -- a line that ends the session, whatever comes behind it
   ended_by : (line : List ℕ) (status result : ℕ) (after : SinkState) → IsLastLine status line → ((state : SessionState) → Ordering state → (more : List ℕ) → Answers state (goes.taken ++ more) (goes.text ++ line) status)
       → Ends status line now.out after result → Converses first now.editor now.source after result
   ended_by line status result after last answers is =
-      ends_outcome first now.editor now.source goes.taken goes.takes goes.awaited few_taken now.out after goes.text goes.said goes.quiet_out line status result last quiet
+      ends_outcome first now.editor now.source goes.taken goes.takes goes.awaited few_taken looks_here_now now.out after goes.text goes.said goes.quiet_out line status result last quiet
       (if_told first.editor.told Ordering (λ state. Answers state goes.taken (goes.text ++ line) status) (λ state at. answers_taken goes.taken (goes.text ++ line) status state (answers state at)) goes.stands)
       (if_told first.editor.told Ordering (λ state. IfSome first.source.left (λ input. Answers state input (goes.text ++ line) status))
       (λ state at. answers_input first.source.left now.source.left goes.taken (goes.text ++ line) status state (answers state at) goes.takes.came) goes.stands)
@@ -74,6 +85,7 @@ module _ (first now : Now) (number : ℕ) (order : lines.Order) (goes : IsOrdere
     said = goes.said;
     stands = if_told first.editor.told Ordering (λ state. StandsAt state goes.taken goes.text (now_at now.editor now.waiting (Some held) now.source now.out))
         (λ state at. stands_collected state goes.taken goes.text number order now at now.editor now.out held (does state at) refl) goes.stands;
+    looks = goes.looks;
     untold = goes.untold;
     quiet_editor = goes.quiet_editor;
     quiet_source = goes.quiet_source;
@@ -82,7 +94,7 @@ module _ (first now : Now) (number : ℕ) (order : lines.Order) (goes : IsOrdere
 
   -- ---- a reply, and then it goes on
 
-  module _ (editor : EditorState) (out : SinkState) (line : List ℕ) (told : first.editor.told ≡ None → editor.told ≡ None) (calm : editor.faults ≡ now.editor.faults)
+  module _ (editor : EditorState) (out : SinkState) (line : List ℕ) (told : first.editor.told ≡ None → editor.told ≡ None) (calm : editor.faults ≡ now.editor.faults) (looked : Looks first goes.taken editor.asked)
       (standing : (state : SessionState) → Ordering state → StandsAt state goes.taken (goes.text ++ line) (now_at editor now.waiting None now.source out)) where
     replied_turns : (result : Option ℕ) → GivesReply line now.out out result → Turns first editor now.waiting None now.source out result
     replied_turns None gave = record {
@@ -94,13 +106,14 @@ module _ (first now : Now) (number : ℕ) (order : lines.Order) (goes : IsOrdere
       text = goes.text ++ line;
       said = give_then first.out.got now.out.got out.got goes.text line goes.said gave.got;
       stands = if_told first.editor.told Ordering (λ state. StandsAt state goes.taken (goes.text ++ line) (now_at editor now.waiting None now.source out)) standing goes.stands;
+      looks = looked;
       untold = told;
       quiet_editor = calm ∙ goes.quiet_editor;
       quiet_source = goes.quiet_source;
       quiet_out = gave.quiet ∙ goes.quiet_out;
     }
     replied_turns (Some status) cut =
-        ends_cut_off first editor now.source goes.taken goes.takes goes.awaited few_taken now.out out goes.text goes.said goes.quiet_out line status
+        ends_cut_off first editor now.source goes.taken goes.takes goes.awaited few_taken (looks_here first goes.taken editor.asked few looked) now.out out goes.text goes.said goes.quiet_out line status
         (record { editor_is = calm ∙ goes.quiet_editor; source_is = goes.quiet_source })
         (if_told first.editor.told Ordering (λ state. RepliesFront state goes.taken (goes.text ++ line))
         (λ state at. let then = standing state at in replies_front state (goes.text ++ line) then.at goes.taken few then.talks) goes.stands)
@@ -108,24 +121,24 @@ module _ (first now : Now) (number : ℕ) (order : lines.Order) (goes : IsOrdere
 
   pub make_turns : (edit : List Change) → ((state : SessionState) (is : Ordering state) → turn_of is.at ≡ makes edit is.rest) → (editor : EditorState) (out : SinkState) (result : Option ℕ)
       → Makes now.editor edit now.out editor out result → Turns first editor now.waiting None now.source out result
-  make_turns edit does editor out result (replied line edits gives) =
-      replied_turns editor out line (λ e. edits.untold (goes.untold e)) edits.quiet
+  make_turns edit does editor out result (replied line edits looks gives) =
+      replied_turns editor out line (λ e. edits.untold (goes.untold e)) edits.quiet (looks_made edit does editor looks)
       (λ state at. stands_made state goes.taken goes.text number order now at editor out edit line (does state at)
       (subst (λ (t : Option SessionState). IfSome t (λ s. IsReplied s edit line editor.told)) at.told edits.replied))
       result gives
-  make_turns edit does editor out result (fails status e rose is) =
+  make_turns edit does editor out result (fails status e rose looks is) =
       subst (λ (r : Option ℕ). Turns first editor now.waiting None now.source out r) (sym e)
-      (ends_look_fault first editor now.source goes.taken goes.takes goes.awaited few_taken now.out out goes.text goes.said goes.quiet_out status
+      (ends_look_fault first editor now.source goes.taken goes.takes goes.awaited few_taken (looks_here first goes.taken editor.asked few (looks_made edit does editor looks)) now.out out goes.text goes.said goes.quiet_out status
       (subst (λ (n : ℕ). Rose n editor.faults) goes.quiet_editor rose) goes.quiet_source front_told is)
-  make_turns edit does editor out result (wants status e calm is) =
+  make_turns edit does editor out result (wants status e calm looks is) =
       subst (λ (r : Option ℕ). Turns first editor now.waiting None now.source out r) (sym e)
-      (ends_memory first editor now.source goes.taken goes.takes goes.awaited few_taken now.out out goes.text goes.said goes.quiet_out status
+      (ends_memory first editor now.source goes.taken goes.takes goes.awaited few_taken (looks_here first goes.taken editor.asked few (looks_made edit does editor looks)) now.out out goes.text goes.said goes.quiet_out status
       (record { editor_is = calm ∙ goes.quiet_editor; source_is = goes.quiet_source }) front_told is)
 
   pub show_turns : ((state : SessionState) (is : Ordering state) → turn_of is.at ≡ shows is.rest) → (out : SinkState) (result : Option ℕ) → ShowsMap now.editor now.out out result
       → Turns first now.editor now.waiting None now.source out result
   show_turns does out result (shown map is gives) =
-      replied_turns now.editor out (map_reply map) goes.untold refl
+      replied_turns now.editor out (map_reply map) goes.untold refl goes.looks
       (λ state at. stands_shown state goes.taken goes.text number order now at now.editor out map (does state at)
       (subst (λ (t : Option SessionState). IfSome t (λ s. map ≡ s.map)) at.told is) refl)
       result gives

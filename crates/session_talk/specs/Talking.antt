@@ -4,6 +4,7 @@
 --     StandsAt state taken text now   of these bytes all that doesn't wait is read, and this text is replied
 --     IsAwaitedBy state taken         the last of these bytes were taken, all at once, where what came before them
 --                                     didn't end the session
+--     Looks first input asked         the folder was asked for paths alone at which edits look to which this input comes
 --     Goes Stands first now           so far nothing failed, and it stands so
 --     OrderedAt number order state taken text now      so, but the last line that is read isn't obeyed yet
 --     GoesOn first now, IsOrdered number order first now      so far nothing failed, and it stands in one of both ways
@@ -32,11 +33,12 @@ use Rattle.generator_spec.specs.Statuses.{memory_status, read_fault_status, writ
 use Rattle.session_spec.specs.declared.Change.{Change}
 use Rattle.session_spec.specs.Conversations.{Answers, stops, map_reply, end_reply, bad_line}
 use Rattle.session_spec.specs.SessionLines.{Order, Rest, reads, read_line}
+use Rattle.session_spec.specs.SessionLooks.{IsTriedLook}
 use Rattle.session_spec.specs.SessionStates.{SessionState}
 use Rattle.session_spec.specs.TakenInput.{Takes, taken_at_once}
 use Rattle.session_spec.specs.Talks.{Standing, begun, turn_of, Talks}
 use Rattle.session_input.specs.Readers.{Waiting}
-use Rattle.session_talk.specs.Editors.{EditorState, EditsTold, Shows}
+use Rattle.session_talk.specs.Editors.{EditorState, AsksFor, EditsTold, EditsLook, Shows}
 
 pub record Now : Type 0 where
   pub editor : EditorState
@@ -85,6 +87,10 @@ pub record StandsBeforeLastOf (state : SessionState) (taken : List ℕ) : Type 0
 abbrev pub IsAwaitedBy : SessionState → List ℕ → Type 0
 IsAwaitedBy state taken = (taken ≡ []) ⊎ StandsBeforeLastOf state taken
 
+abbrev pub Looks : Now → List ℕ → Option (List (List ℕ)) → Type 0
+Looks first input asked =
+    IfSome first.editor.told (λ state. IfSome first.editor.asked (λ old. AsksFor (IsTriedLook state input) old asked))
+
 pub record Goes (Stands : SessionState → List ℕ → List ℕ → Type 0) (first now : Now) : Type 0 where
   pub taken : List ℕ
   pub takes : Takes first.source taken now.source
@@ -94,6 +100,7 @@ pub record Goes (Stands : SessionState → List ℕ → List ℕ → Type 0) (fi
   pub text : List ℕ
   pub said : now.out.got ≡ option_map (λ front. front ++ text) first.out.got
   pub stands : IfSome first.editor.told (λ state. Stands state taken text)
+  pub looks : Looks first taken now.editor.asked
   pub untold : first.editor.told ≡ None → now.editor.told ≡ None
   pub quiet_editor : now.editor.faults ≡ first.editor.faults
   pub quiet_source : now.source.faults ≡ first.source.faults
@@ -169,6 +176,7 @@ pub record Converses (first : Now) (editor : EditorState) (source : SourceState)
   pub takes : Takes first.source taken source
   pub few : length taken ≤ limit_number Session + 1
   pub awaited : IfSome first.editor.told (λ state. IsAwaitedBy state taken)
+  pub looks : Looks first (take (limit_number Session) taken) editor.asked
   pub stops : Stops first editor source out taken result
 
 -- ---- what a turn gives out
@@ -193,13 +201,13 @@ TellsEnd status line out after result =
 pub data Makes (before : EditorState) (edit : List Change) (out : SinkState) (after : EditorState)
     (out_after : SinkState) (result : Option ℕ) : Type 0 where
   replied :
-      (line : List ℕ) → EditsTold before edit line after → GivesReply line out out_after result
-      → Makes before edit out after out_after result
+      (line : List ℕ) → EditsTold before edit line after → EditsLook before edit after
+      → GivesReply line out out_after result → Makes before edit out after out_after result
   fails :
-      (status : ℕ) → result ≡ Some status → Rose before.faults after.faults
+      (status : ℕ) → result ≡ Some status → Rose before.faults after.faults → EditsLook before edit after
       → Ends read_fault_status read_fault_line out out_after status → Makes before edit out after out_after result
   wants :
-      (status : ℕ) → result ≡ Some status → after.faults ≡ before.faults
+      (status : ℕ) → result ≡ Some status → after.faults ≡ before.faults → EditsLook before edit after
       → Ends memory_status memory_line out out_after status → Makes before edit out after out_after result
 
 pub data ShowsMap (editor : EditorState) (out after : SinkState) (result : Option ℕ) : Type 0 where
