@@ -33,7 +33,8 @@ use Rattle.session_spec.specs.SessionRuns as runs
 use Rattle.session_spec.specs.SessionRuns.{IsSessionShaped as shaped, RepliesTo as replies_to}
 use Rattle.session_spec.specs.Openings.{refresh_words}
 use Rattle.session_spec.specs.SessionLooks.{IsSessionLook, AsksFresh, AsksWithin}
-use Rattle.session_spec.specs.SessionRuns.{IsAwaited, MapsServe, NoFault, RepliesTo, RepliesToAll, SessionComesTo, SessionSays, SessionStops, SessionEnds}
+use Rattle.session_spec.specs.SessionRuns.{IsAwaited, StatesServe, NoFault, RepliesTo, RepliesToAll, SessionComesTo, SessionSays, SessionStops, SessionEnds}
+use Rattle.session_spec.proofs.SessionSpending.{spends_nothing}
 use Rattle.generator_core.specs.Configuring.{StopsConfig, StopsConfig as stops_config}
 use Rattle.generator_core.specs.Writing.{TellsStop, TellsWords}
 use Rattle.generator_core.proofs.Endings.{some_same, still}
@@ -88,9 +89,9 @@ asks_both taken holds before_holds same middle after (Some old) own more =
     record { first = own.first; is_first = own.is_own; then = subst (λ (h : Option Tree). AsksFresh h taken (old ++ own.first) after) same new }
 
 pub ends_before :
-    (before middle after : FolderState) (source later : SourceState) (out gone : SinkState) (result : ℕ) → OnlyLooks before middle ⊥ → IfSome before.asked (λ old. AsksOwn (project_path ∷ []) old middle)
-    → HoldsSession middle after source later out gone result → SessionEnds before after source later out gone result
-ends_before before middle after source later out gone result looked own held =
+    (before middle after : FolderState) (source later : SourceState) (out gone : SinkState) (result spent spent_after : ℕ) → OnlyLooks before middle ⊥ → IfSome before.asked (λ old. AsksOwn (project_path ∷ []) old middle)
+    → HoldsSession middle after source later out gone result spent spent_after → SessionEnds before after source later out gone result spent spent_after
+ends_before before middle after source later out gone result spent spent_after looked own held =
     let is = held.ends in
     let quiet = looked.quiet (λ e. e) in
     let looks_later = is.looks_later in
@@ -101,10 +102,12 @@ ends_before before middle after source later out gone result looked own held =
       output_later = is.output_later;
       taken = is.taken;
       takes = is.takes;
+      few = is.few;
       awaited = of_before before middle after looked.tree quiet source later is.taken (λ tree. IsAwaited tree is.taken) is.awaited;
+      steps = is.steps;
       asked = asks_both is.taken middle.holds before.holds looked.tree middle after before.asked own held.fresh;
       stops = stops_before before middle after looked.tree quiet source later is.taken out gone result is.stops;
-      serves = of_before before middle after looked.tree quiet source later is.taken (λ tree. MapsServe tree is.taken) is.serves;
+      serves = of_before before middle after looked.tree quiet source later is.taken (λ tree. StatesServe tree is.taken) is.serves;
     }
 
 -- ---- a session that isn't opened
@@ -112,14 +115,14 @@ ends_before before middle after source later out gone result looked own held =
 nothing_fresh : (holds : Option Tree) (after : FolderState) (old : List (List ℕ)) → after.asked ≡ Some old → AsksFresh holds [] old after
 nothing_fresh holds after old is = record { more = []; asked = is ∙ ap Some (sym (append-nil old)); once = distinct_none; among = if_all holds (λ tree. All-nil (IsSessionLook tree [])) }
 
-module _ (before after : FolderState) (source : SourceState) (out gone : SinkState) (result : ℕ) where
+module _ (before after : FolderState) (source : SourceState) (out gone : SinkState) (result spent : ℕ) where
   abbrev StopsAtOnce : Type 0
   StopsAtOnce = SessionStops before after source source [] out gone result
 
   nothing_said : IfSome before.holds (λ tree. RepliesTo tree [] [])
   nothing_said = if_all before.holds (λ tree. replies_to.unopened)
 
-  unopened_ends : {P : Type 0} → OnlyLooks before after P → out.faults ≤ gone.faults → IfSome before.asked (λ old. AsksOwn (project_path ∷ []) old after) → StopsAtOnce → SessionEnds before after source source out gone result
+  unopened_ends : {P : Type 0} → OnlyLooks before after P → out.faults ≤ gone.faults → IfSome before.asked (λ old. AsksOwn (project_path ∷ []) old after) → StopsAtOnce → SessionEnds before after source source out gone result spent spent
   unopened_ends looks output_later own stops = record {
     tree = looks.tree;
     writes = looks.writes;
@@ -127,8 +130,10 @@ module _ (before after : FolderState) (source : SourceState) (out gone : SinkSta
     output_later = output_later;
     taken = [];
     takes = takes_none source;
+    few = omega arith;
     awaited = if_all before.holds (λ tree. inl refl);
     asked = if_some before.asked (λ old is. record { first = is.first; is_first = is.is_own; then = nothing_fresh before.holds after (old ++ is.first) is.asked }) own;
+    steps = spends_nothing _ _ _ (omega arith);
     stops = stops;
     serves = if_all before.holds (λ tree. session_maps_serve tree []);
   }
@@ -146,7 +151,7 @@ module _ (before after : FolderState) (source : SourceState) (out gone : SinkSta
   abbrev IsOwn : Type 0
   IsOwn = IfSome before.asked (λ old. AsksOwn (project_path ∷ []) old after)
 
-  pub stopped_ends : (stop : Stop) → StopsConfig refresh_words before after stop → IsOwn → TellsStop stop out gone result → out.faults ≤ gone.faults → SessionEnds before after source source out gone result
+  pub stopped_ends : (stop : Stop) → StopsConfig refresh_words before after stop → IsOwn → TellsStop stop out gone result → out.faults ≤ gone.faults → SessionEnds before after source source out gone result spent spent
   stopped_ends stop (stops_config.refused fault same refuses can looks) own told later =
       unopened_ends looks later own
       (refused_at_once (Configured fault) (can_refuse.by_project fault can) (looks.quiet (λ e. e)) (if_some before.holds (λ tree because. refuses_run.by_project fault because) refuses) (subst (λ (s : Stop). TellsStop s out gone result) same told))
@@ -163,10 +168,10 @@ own_of_nothing state = some_same state.asked _ (λ old is. record { first = []; 
 
 -- words that ask for a session are refused for want of memory alone
 pub unread_ends :
-    (words : List (List ℕ)) (state : FolderState) (source : SourceState) (out gone : SinkState) (result : ℕ) (fault : WordsFault) → Explains words fault → TellsWords fault out gone result → out.faults ≤ gone.faults → IsSession words
-    → SessionEnds state state source source out gone result
-unread_ends words state source out gone result (words_fault.Told text) why told later asks = absurd (why (record { asked = editing; asks = asks }))
-unread_ends words state source out gone result words_fault.NotPlain why told later asks = absurd (why (record { asked = editing; asks = asks }))
-unread_ends words state source out gone result (words_fault.Refused fault) why told later asks = absurd ((words_are_judged words).session_or_fault fault asks why)
-unread_ends words state source out gone result words_fault.Memory why told later asks =
-    unopened_ends state state source out gone result (still state) later (own_of_nothing state) (memory_at_once state state source out gone result refl told)
+    (words : List (List ℕ)) (state : FolderState) (source : SourceState) (out gone : SinkState) (result spent : ℕ) (fault : WordsFault) → Explains words fault → TellsWords fault out gone result → out.faults ≤ gone.faults → IsSession words
+    → SessionEnds state state source source out gone result spent spent
+unread_ends words state source out gone result spent (words_fault.Told text) why told later asks = absurd (why (record { asked = editing; asks = asks }))
+unread_ends words state source out gone result spent words_fault.NotPlain why told later asks = absurd (why (record { asked = editing; asks = asks }))
+unread_ends words state source out gone result spent (words_fault.Refused fault) why told later asks = absurd ((words_are_judged words).session_or_fault fault asks why)
+unread_ends words state source out gone result spent words_fault.Memory why told later asks =
+    unopened_ends state state source out gone result spent (still state) later (own_of_nothing state) (memory_at_once state state source out gone result spent refl told)

@@ -12,3 +12,6 @@ pub mod Standings
 pub mod ShapedSessions
 pub mod FaultsOfEdits
 pub mod SessionLooking
+pub mod SessionSpending
+pub mod FreshMaps
+pub mod SessionsPromise

@@ -3,6 +3,7 @@ use Rattle.std.specs.FinMap.{get}
 use Rattle.std.specs.Prelude.{◌≡◌, ◌≤◌, ◌⊎◌, ◌++◌, ◌∷◌, ⊤, ℕ, true, List, length, flat_map, Ok, Err, All}
 use Rattle.tree_spec.specs.Limits.{limit_number}
 use Rattle.tree_spec.specs.Paths.{IsPath}
+use Rattle.tree_spec.specs.States.{FolderState, SourceState, SinkState}
 use Rattle.tree_spec.specs.Trees.{Tree, IsTree, Places}
 use Rattle.tree_spec.specs.declared.Entry.TheVariants.{Stored}
 use Rattle.tree_spec.specs.declared.LimitName.TheVariants.{Session}
@@ -17,7 +18,8 @@ use Rattle.session_spec.specs.Edits.{Draft, can_put, put_file, edited, then_edit
 use Rattle.session_spec.specs.Replies.{IsRefused, Replies, IsAccepted, Leads, AllAccepted}
 use Rattle.session_spec.specs.SessionLooks.{IsTried, IsSessionLook}
 use Rattle.session_spec.specs.Openings.{OpensAt}
-use Rattle.session_spec.specs.SessionRuns.{SessionComesTo, IsStanding, IsSessionShaped}
+use Rattle.session_spec.specs.SessionPromises.{SessionPromises}
+use Rattle.session_spec.specs.SessionRuns.{SessionComesTo, RepliesTo, IsStanding, IsSessionShaped, SessionEnds}
 use Rattle.session_spec.specs.SessionStates.{SessionState, draft_of, config_with, IsCurrent}
 use Rattle.session_spec.specs.Talks.{Standing, begun, turn_of, Talks}
 
@@ -168,6 +170,27 @@ abbrev pub LooksStay : Type 0
 LooksStay =
     (tree : Tree) (taken more path : List ℕ) → IsSessionLook tree taken path → IsSessionLook tree (taken ++ more) path
 
+-- own: these edits were accepted, one after another; the tree and the entries are those behind all their changes, and
+-- the map is the one that is generated for them
+pub record IsFreshAfter (first later : SessionState) : Type 0 where
+  pub edits : List (List Change)
+  pub accepted : AllAccepted first edits later
+  pub behind : IsBehind first (all_changes edits) later
+  pub fresh : IsCurrent later
+
+-- wherever a session stands that is opened on a tree, some edits were accepted, and its map is that of a fresh
+-- generation for what they leave; what was refused is without effect
+abbrev pub MapsAreFreshAfterEdits : Type 0
+MapsAreFreshAfterEdits =
+    (tree : Tree) (first : SessionState) (input out : List ℕ) (later : Standing) → OpensAt tree first
+    → Talks (begun first input) out later → IsFreshAfter first later.state
+
+-- what a session says while it takes an input is the front of what it says to it all, whatever comes behind
+abbrev pub RepliesAreFront : Type 0
+RepliesAreFront =
+    (tree : Tree) (taken more front out : List ℕ) (status : ℕ) → RepliesTo tree taken front
+    → SessionComesTo tree (taken ++ more) status out → BeginsWith front out
+
 -- a session on a tree says one text to an input at most, with one status
 abbrev pub OneSession : Type 0
 OneSession =
@@ -209,3 +232,10 @@ abbrev pub SessionsEnd : Type 0
 SessionsEnd =
     (tree : Tree) (taken text : List ℕ) (at : Standing) → length taken ≤ limit_number Session
     → IsStanding tree taken text at → EndsThere tree taken text at
+
+-- a session that ends as is promised keeps these promises
+abbrev pub SessionsKeepPromises : Type 0
+SessionsKeepPromises =
+    (before after : FolderState) (source later : SourceState) (out out_after : SinkState)
+    (result spent spent_after : ℕ) → SessionEnds before after source later out out_after result spent spent_after
+    → SessionPromises before after source later out out_after result

@@ -9,6 +9,8 @@ pub mod TakenInput
 pub mod EditLooks
 pub mod Openings
 pub mod SessionLooks
+pub mod SessionSteps
 pub mod SessionRuns
+pub mod SessionPromises
 pub mod Laws
 pub mod WorkedExamples

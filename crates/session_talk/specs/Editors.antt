@@ -1,6 +1,6 @@
 -- Who makes the edits of a session.
---     EditorState                     the session's state, where it is told, how many looks failed, and for which paths
---                                     the folder was asked, where it tells that
+--     EditorState                     the session's state, where it is told, how many looks failed, for which paths the
+--                                     folder was asked, where it tells that, and how many steps were taken
 --     AsksFor Among old asked         it was asked for further paths, for such alone
 --     EditsLook before edit after     for paths alone at which the edit looks
 --     Seen Is P                       of a state that it is, this
@@ -9,12 +9,13 @@
 --     Edits before edit result after  an edit is made, and its reply given
 --     EditsFrom Before edit result After      the same from each state that it is to one that it is then
 --     Shows state map                 the map is the state's
-use Rattle.std.specs.Prelude.{◌≡◌, ◌++◌, ℕ, List, Option, Some, None, Result, Ok, Err, IfSome, All}
+use Rattle.std.specs.Prelude.{◌≡◌, ◌≤◌, ◌+◌, ◌++◌, ℕ, List, Option, Some, None, Result, Ok, Err, IfSome, All}
 use Rattle.tree_spec.specs.Counts.{Rose}
 use Rattle.session_spec.specs.declared.Change.{Change}
 use Rattle.session_spec.specs.EditLooks.{IsEditLook}
 use Rattle.session_spec.specs.Replies.{Replies}
 use Rattle.session_spec.specs.SessionStates.{SessionState}
+use Rattle.session_spec.specs.SessionSteps.{most_steps}
 use Rattle.session_talk.specs.declared.editor.EditorFault.{EditorFault}
 use Rattle.session_talk.specs.declared.editor.EditorFault.TheVariants.{ReadFault, Memory}
 
@@ -22,6 +23,7 @@ pub record EditorState : Type 0 where
   pub told : Option SessionState
   pub faults : ℕ
   pub asked : Option (List (List ℕ))
+  pub spent : ℕ
 
 pub record AsksFor (Among : List ℕ → Type 0) (old : List (List ℕ)) (asked : Option (List (List ℕ))) : Type 0 where
   pub more : List (List ℕ)
@@ -58,6 +60,7 @@ pub record Edits (before : EditorState) (edit : List Change) (result : Result (L
     (after : EditorState) : Type 0 where
   pub comes : Comes before edit result after
   pub looks : EditsLook before edit after
+  pub steps : after.spent ≤ before.spent + most_steps
 
 abbrev pub EditsFrom :
     (EditorState → Type 0) → List Change → Result (List ℕ) EditorFault → (EditorState → Type 0) → Type 0
