@@ -35,6 +35,9 @@ untold = record { holds = None; asked = None; look_faults = 0; write_faults = 0 
 abbrev mute : SinkState
 mute = record { got = None; faults = 0 }
 
+none_rose : Rose 0 0 → ⊥
+none_rose rose = (let one : 1 ≤ 0 = rose in omega (arith, one))
+
 module _ (why : Refusal) (can : CanRefuse refresh_words why) where
   refusal_says : ending.Says refresh_words untold untold (status_of why) (line_of why ∷ [])
   refusal_says = says.outcome (shaped.refused why can refl refl) tt refl refl
@@ -46,14 +49,14 @@ module _ (why : Refusal) (can : CanRefuse refresh_words why) where
   refusal_status = end_statuses refresh_words untold untold mute mute (status_of why) (status_of why) (line_of why ∷ []) refusal_says refusal_ends
 
   not_read : status_of why ≢ 4
-  not_read four = (let rose = end_read refresh_words untold untold mute mute (status_of why) (status_of why) (line_of why ∷ []) refusal_says refusal_ends four in omega (arith, rose))
+  not_read four = (let rose = end_read refresh_words untold untold mute mute (status_of why) (status_of why) (line_of why ∷ []) refusal_says refusal_ends four in none_rose rose)
 
   not_written : status_of why ≢ 5
   not_written five = none (end_write refresh_words untold untold mute mute (status_of why) (status_of why) (line_of why ∷ []) refusal_says refusal_ends five)
     where
       none : Rose 0 0 ⊎ Rose 0 0 → ⊥
-      none (inl rose) = omega (arith, rose)
-      none (inr rose) = omega (arith, rose)
+      none (inl rose) = none_rose rose
+      none (inr rose) = none_rose rose
 
 record IsOwnStatus (status : ℕ) : Type 0 where
   pub is : IsStatus status
