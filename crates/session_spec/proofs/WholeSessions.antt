@@ -52,7 +52,7 @@ module _ (tree : Tree) where
   one_opening _ _ (opens config map counts is generated) (opens second other others is_too generated_too) =
       same_state config second map other counts others (one_config refresh_words tree Refresh Refresh config second is is_too).one_config generated generated_too
 
-  refused_or_opened : (why : Refusal) (state : SessionState) → RefusesRun refresh_words tree why → OpensAt tree state → ⊥
+  pub refused_or_opened : (why : Refusal) (state : SessionState) → RefusesRun refresh_words tree why → OpensAt tree state → ⊥
   refused_or_opened why _ refuses (opens config map counts is generated) =
       refused_or_written refresh_words tree why Refresh config map refuses is (nothing Refresh refresh) generated.generates
 
