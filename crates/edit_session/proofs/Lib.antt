@@ -1,3 +1,4 @@
+mod Agreement
 mod AskedPaths
 mod LookedOn
 mod StandingLemmas

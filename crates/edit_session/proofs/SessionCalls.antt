@@ -17,6 +17,7 @@ use Rattle.config_spec.specs.declared.Command.TheVariants.{Refresh}
 use Rattle.generator_spec.specs.Commands.{IsGenerating, IsRefusalOf, Opens, Refuses, nothing, refresh}
 use Rattle.generator_spec.specs.Generation.{PageIsFile}
 use Rattle.package_lookup.specs.declared.known.Known.{Known}
+use Rattle.package_lookup.specs.declared.over.Over.{Over}
 use Rattle.package_lookup.specs.Answered.{state, AsksOnce}
 use Rattle.package_lookup.specs.LaidTrees.{StandsBehind, IsLaid}
 use Rattle.package_lookup.specs.Learning.{Learns, IsSameIn}
@@ -38,8 +39,8 @@ use Rattle.edit_session.specs.NewLooks.{AsksNew, AsksKept, LooksNew}
 use Rattle.edit_session.specs.SessionTrees.{counts_in, IsSessionOf}
 use Rattle.edit_session.specs.Sessions.{IsOpened, OpensSession, IfRefused, StopsEdit, IsEditLook, Accepts, Prepares, Commits}
 use Rattle.edit_session.specs.Steps.{MakesNext, IsStep}
-use Rattle.edit_session.specs.declared.session.Pending.{Pending}
-use Rattle.edit_session.specs.declared.session.Session.{Session}
+use Rattle.edit_session.specs.SessionViews.{Looks, Pending, Session, pending_in, pending_over, shown}
+use Rattle.edit_session.specs.declared.made.Made.{Made as Ready}
 use Rattle.edit_session.specs.declared.stop.EditStop.{EditStop}
 use Rattle.edit_session.specs.declared.stop.EditStop.TheVariants.{Change as NoChange, Generation, ReadFault, Memory}
 use Rattle.edit_session.proofs.AskedPaths.{asks_as, asks_once_new}
@@ -241,14 +242,18 @@ committed old new pending there step = record {
   nothing_pending = step.pending_is;
 }
 
--- the session without what was taken
-abbrev pub without : Session → Option Pending → Session
-without old left = record { known = old.known; config = old.config; generated = old.generated; pending = left }
+pub committed_by : (looks later : Looks) (config later_config : Config) (map later_map : Generated) (made : Ready)
+    (pending left : Option Ready) → left ≡ None → pending ≡ Some made
+    → IsStep (shown looks config map None) (pending_over looks.over made) (shown later later_config later_map None)
+    → Commits (shown looks config map pending) (shown later later_config later_map left)
+committed_by looks later config later_config map later_map made pending left none there step =
+    subst (λ l. Commits (shown looks config map pending) (shown later later_config later_map l)) (sym none)
+    (committed (shown looks config map pending) (shown later later_config later_map None) (pending_over looks.over made)
+    (ap (pending_in looks.over) there) step)
 
-pub committed_by : (old new : Session) (pending : Pending) (left : Option Pending) → left ≡ None
-    → old.pending ≡ Some pending → IsStep (without old left) pending new → Commits old new
-committed_by old new pending left none there step =
-    committed old new pending there (subst (λ l. IsStep (without old l) pending new) none step)
+pub is_pending_in : (over : Over) (made : Option Ready) → is_some (pending_in over made) ≡ is_some made
+is_pending_in over None = refl
+is_pending_in over (Some made) = refl
 
 -- ---- the opening
 

@@ -28,8 +28,7 @@ use Rattle.edit_session.specs.Sessions.{StopsEdit, CanStopEdit, IsEditLook, of_c
 use Rattle.edit_session.specs.Steps.{LeadsTo, CanLackMap, IsAsBefore, GeneratesNext, MakesNext}
 use Rattle.edit_session.specs.Stopping.{stop_by, stop_for}
 use Rattle.edit_session.specs.Trying.{TriesMap}
-use Rattle.edit_session.specs.declared.session.Pending.{Pending}
-use Rattle.edit_session.specs.declared.session.Session.{Session}
+use Rattle.edit_session.specs.SessionViews.{Looks, Pending, Session, shown}
 use Rattle.edit_session.specs.declared.stop.ChangeStop.{ChangeStop}
 use Rattle.edit_session.specs.declared.stop.ChangeStop.TheVariants as change
 use Rattle.edit_session.specs.declared.stop.EditStop.{EditStop}
@@ -313,6 +312,23 @@ lacks_next before old edit = record {
   refused = λ tree state e is. tt;
   kind = tt;
 }
+
+-- the same session by other looks of an edit
+module _ (looks later : Looks) (config : Config) (generated : Generated) (same : later.known ≡ looks.known) where
+  abbrev with_known : Known → Session
+  with_known known = record { known = known; config = config; generated = generated; pending = None }
+
+  pub lacks_later : (before : FolderState) (edit : List Change)
+      → MakesNext before (shown looks config generated None) edit (Err Memory) before (shown later config generated None)
+  lacks_later before edit =
+      subst (λ known. MakesNext before (shown looks config generated None) edit (Err Memory) before (with_known known)) (sym same)
+      (lacks_next before (shown looks config generated None) edit)
+
+  pub makes_as_well : (before after : FolderState) (edit : List Change) (result : Next) (new : Session)
+      → MakesNext before (shown later config generated None) edit result after new
+      → MakesNext before (shown looks config generated None) edit result after new
+  makes_as_well before after edit result new makes =
+      subst (λ known. MakesNext before (with_known known) edit result after new) same makes
 
 -- whatever comes of the map
 module _ (before middle : FolderState) (old mid : Session) (edit : List Change) (over between : Over)

@@ -1,4 +1,5 @@
 pub mod EditLooks
+pub mod SessionViews
 pub mod SessionTrees
 pub mod NewLooks
 pub mod Sessions

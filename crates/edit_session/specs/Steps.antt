@@ -25,8 +25,7 @@ use Rattle.edit_session.specs.LooksOn.{LooksOn}
 use Rattle.edit_session.specs.Sessions.{IsEditLook, StopsEdit, CanStopEdit}
 use Rattle.edit_session.specs.SessionTrees.{IsSessionOf, IsStateOf, counts_in}
 use Rattle.edit_session.specs.Trying.{IfLaid}
-use Rattle.edit_session.specs.declared.session.Pending.{Pending}
-use Rattle.edit_session.specs.declared.session.Session.{Session}
+use Rattle.edit_session.specs.SessionViews.{Pending, Session}
 use Rattle.edit_session.specs.declared.stop.EditStop.{EditStop}
 use Rattle.edit_session.specs.declared.stop.EditStop.TheVariants.{Change as NoChange, Generation, ReadFault, Memory}
 

@@ -1,20 +1,24 @@
-ghost use Rattle.std.specs.Prelude.{◌≡◌, ℕ, List, true, is_some, IfOk};
+ghost use Rattle.std.specs.Prelude.{◌≡◌, ℕ, List, None, true, is_some, IfOk, OnOk};
+ghost use Rattle.generation.specs.declared.generated.Generated.{Generated};
 ghost use Rattle.package_lookup.specs.Looked.{over_at};
 ghost use Rattle.request_trace.specs.Tracing.{TakesSteps};
 ghost use Rattle.edit_session.specs.SessionTrees.{shown_map, shown_counts, counts_told, steps_of, pending_steps};
+ghost use Rattle.edit_session.specs.SessionViews.{shown, pending_over, result_over};
 ghost use Rattle.edit_session.specs.Sessions.{OpensSession, Prepares, Commits};
 ghost use Rattle.edit_session.specs.Steps.{MakesNext, GeneratesNext, IsStep};
 
 use crate::changes::make_all;
 use crate::entries::Entries;
+use crate::looks::Looks;
+use crate::made::Made;
 use crate::stop::EditStop;
-use crate::trying::try_map;
 use generation::{Generated, Stop, generate_over};
-use package_lookup::{Known, Over};
+use package_lookup::Known;
 use primitives::{Listed, Memory, Steps};
 use request_trace::Config;
 use session_spec::Change;
 use std::alloc::Global;
+use std::marker::Model;
 use std::sync::ledger::Ledger;
 use tree_model::Folder;
 
@@ -29,22 +33,22 @@ pub struct Counts {
     pub mappings: usize,
 }
 
-/// A map that is kept current: the config, what was seen of the folder, what edits laid over it, and the map that is
+/// A map that is kept current: what was seen of the folder and what edits laid over it, the config, and the map that is
 /// generated for these; and beside them what an edit that is prepared would make of them.
 #[derive(Drop)]
 pub struct Session {
-    known: Known,
+    looks: Looks,
     config: Config,
     generated: Generated,
-    pending: Option<Pending>,
+    pending: Option<Made>,
 }
 
-/// What an edit makes of a session: other looks that are laid, other entries, and the map for them.
-#[derive(Drop)]
-pub(crate) struct Pending {
-    over: Over,
-    entries: Entries,
-    generated: Generated,
+impl Model for Session {
+    ghost use Rattle.edit_session.specs.SessionViews.{Session as View, shown};
+
+    ghost Value = { View };
+
+    ghost view = { λ s. shown s.looks s.config s.generated s.pending };
 }
 
 impl Session {
@@ -62,7 +66,7 @@ impl Session {
         match generate_over(alloc, folder, &mut known, &config, steps) {
             Err(stop) => Err(stop),
             Ok(generated) => Ok(Session {
-                known,
+                looks: Looks::of(alloc, known),
                 config,
                 generated,
                 pending: None,
@@ -83,105 +87,19 @@ impl Session {
         ensures steps { TakesSteps result (λ done. pending_steps self.new) steps.old steps.new }
     {
         self.pending = None;
-        match self.next(alloc, edit, folder, steps) {
-            Err(stop) => Err(stop),
-            Ok(pending) => {
-                self.pending = Some(pending);
-                Ok(())
-            }
-        }
-    }
-
-    // What an edit makes of the session.
-    fn next<F: Folder, L: Ledger>(
-        &mut self,
-        alloc: Global,
-        edit: &Edit,
-        folder: &mut F,
-        steps: &mut Steps<L>,
-    ) -> Result<Pending, EditStop>
-        ensures makes { MakesNext (F.state folder.old) self.old edit.now result (F.state folder.new) self.new }
-        ensures steps { TakesSteps result (λ pending. steps_of pending.generated) steps.old steps.new }
-    {
-        match self.draft(alloc) {
-            Err(_) => Err(EditStop::Memory),
-            Ok((over, entries)) => self.make(alloc, over, entries, edit, folder, steps),
-        }
-    }
-
-    // The laid looks and the entries, to be changed.
-    fn draft(&self, alloc: Global) -> Result<(Over, Entries), Memory>
-        ensures over { IfOk result (λ draft. (path : List ℕ)
-            → over_at draft.0 path ≡ over_at self.now.known.laid path) }
-        ensures entries { IfOk result (λ draft. draft.1 ≡ self.now.config.entries) }
-    {
-        let over = self.known.laid().copy(alloc)?;
-        let entries = Entries::of(alloc, &self.config)?;
-        Ok((over, entries))
-    }
-
-    // What an edit makes of the session, whose laid looks and entries these are.
-    fn make<F: Folder, L: Ledger>(
-        &mut self,
-        alloc: Global,
-        over: Over,
-        entries: Entries,
-        edit: &Edit,
-        folder: &mut F,
-        steps: &mut Steps<L>,
-    ) -> Result<Pending, EditStop>
-        requires over { (path : List ℕ) → over_at over path ≡ over_at self.old.known.laid path }
-        requires entries { entries ≡ self.old.config.entries }
-        ensures makes { MakesNext (F.state folder.old) self.old edit.now result (F.state folder.new) self.new }
-        ensures steps { TakesSteps result (λ pending. steps_of pending.generated) steps.old steps.new }
-    {
-        let mut over = over;
-        let mut entries = entries;
-        let known = &mut self.known;
-        match make_all(
+        match next(
             alloc,
-            known,
-            &mut over,
-            &mut entries,
-            folder,
-            edit.as_slice(),
-        ) {
-            Err(stop) => Err(EditStop::of_change(stop)),
-            Ok(()) => self.generate(alloc, over, entries, folder, steps),
-        }
-    }
-
-    // The same, where the changes are made.
-    fn generate<F: Folder, L: Ledger>(
-        &mut self,
-        alloc: Global,
-        over: Over,
-        entries: Entries,
-        folder: &mut F,
-        steps: &mut Steps<L>,
-    ) -> Result<Pending, EditStop>
-        ensures generates { GeneratesNext (F.state folder.old) self.old over entries result
-            (F.state folder.new) self.new }
-        ensures steps { TakesSteps result (λ pending. steps_of pending.generated) steps.old steps.new }
-    {
-        let mut over = over;
-        let mut entries = entries;
-        let made = try_map(
-            alloc,
-            &mut self.known,
+            &mut self.looks,
             &mut self.config,
-            &mut over,
-            &mut entries,
+            edit,
             folder,
             steps,
-        );
-        match made {
-            Err(stop) => Err(EditStop::of_map(stop)),
-            Ok(generated) => Ok(Pending {
-                over,
-                entries,
-                generated,
-            }),
+        ) {
+            Err(stop) => Err(stop),
+            Ok(made) => {
+                self.pending = Some(made);
+                Ok(())
+            }
         }
     }
 
@@ -190,24 +108,14 @@ impl Session {
         requires { is_some self.old.pending ≡ true }
         ensures { Commits self.old self.new }
     {
-        if let Some(pending) = self.pending.take() {
-            self.step(pending);
+        if let Some(made) = self.pending.take() {
+            step(
+                &mut self.looks,
+                &mut self.config,
+                &mut self.generated,
+                made,
+            );
         }
-    }
-
-    fn step(&mut self, pending: Pending)
-        ensures { IsStep self.old pending self.new }
-    {
-        let Pending {
-            over,
-            entries,
-            generated,
-        } = pending;
-        let mut over = over;
-        let mut entries = entries;
-        self.known.lay(&mut over);
-        entries.exchange(&mut self.config);
-        self.generated = generated;
     }
 
     /// Whether an edit is prepared.
@@ -234,4 +142,96 @@ impl Session {
             mappings: self.generated.mappings,
         }
     }
+}
+
+// What an edit makes of a session. Its looks are then those of the edit.
+fn next<F: Folder, L: Ledger>(
+    alloc: Global,
+    looks: &mut Looks,
+    config: &mut Config,
+    edit: &Edit,
+    folder: &mut F,
+    steps: &mut Steps<L>,
+) -> Result<Made, EditStop>
+    ensures makes { (generated : Generated) → MakesNext (F.state folder.old) (shown looks.old config.old generated None)
+        edit.now (result_over looks.new.over result) (F.state folder.new)
+        (shown looks.new config.new generated None) }
+    ensures steps { TakesSteps result (λ made. steps_of made.generated) steps.old steps.new }
+{
+    match draft(alloc, looks, config) {
+        Err(_) => Err(EditStop::Memory),
+        Ok(entries) => make(alloc, looks, config, entries, edit, folder, steps),
+    }
+}
+
+// The looks and the entries, to be changed.
+fn draft(alloc: Global, looks: &mut Looks, config: &Config) -> Result<Entries, Memory>
+    ensures known { looks.new.known ≡ looks.old.known }
+    ensures over { OnOk result ((path : List ℕ) → over_at looks.new.over path ≡ over_at looks.new.known.laid path) }
+    ensures entries { IfOk result (λ entries. entries ≡ config.now.entries) }
+{
+    looks.level(alloc)?;
+    let entries = Entries::of(alloc, config)?;
+    Ok(entries)
+}
+
+// What an edit makes of a session, whose looks and entries these are.
+fn make<F: Folder, L: Ledger>(
+    alloc: Global,
+    looks: &mut Looks,
+    config: &mut Config,
+    entries: Entries,
+    edit: &Edit,
+    folder: &mut F,
+    steps: &mut Steps<L>,
+) -> Result<Made, EditStop>
+    requires over { (path : List ℕ) → over_at looks.old.over path ≡ over_at looks.old.known.laid path }
+    requires entries { entries ≡ config.old.entries }
+    ensures makes { (generated : Generated) → MakesNext (F.state folder.old) (shown looks.old config.old generated None)
+        edit.now (result_over looks.new.over result) (F.state folder.new)
+        (shown looks.new config.new generated None) }
+    ensures steps { TakesSteps result (λ made. steps_of made.generated) steps.old steps.new }
+{
+    let mut entries = entries;
+    match make_all(alloc, looks, &mut entries, folder, edit.as_slice()) {
+        Err(stop) => Err(EditStop::of_change(stop)),
+        Ok(()) => generate(alloc, looks, config, entries, folder, steps),
+    }
+}
+
+// The same, where the changes are made.
+fn generate<F: Folder, L: Ledger>(
+    alloc: Global,
+    looks: &mut Looks,
+    config: &mut Config,
+    entries: Entries,
+    folder: &mut F,
+    steps: &mut Steps<L>,
+) -> Result<Made, EditStop>
+    ensures generates { (generated : Generated) → GeneratesNext (F.state folder.old)
+        (shown looks.old config.old generated None) looks.old.over entries (result_over looks.new.over result)
+        (F.state folder.new) (shown looks.new config.new generated None) }
+    ensures steps { TakesSteps result (λ made. steps_of made.generated) steps.old steps.new }
+{
+    let mut entries = entries;
+    let found = looks.try_map(alloc, config, &mut entries, folder, steps);
+    match found {
+        Err(stop) => Err(EditStop::of_map(stop)),
+        Ok(generated) => Ok(Made { entries, generated }),
+    }
+}
+
+// What is pending takes the place of what was.
+fn step(looks: &mut Looks, config: &mut Config, generated: &mut Generated, made: Made)
+    ensures { IsStep (shown looks.old config.old generated.old None) (pending_over looks.old.over made)
+        (shown looks.new config.new generated.new None) }
+{
+    let Made {
+        entries,
+        generated: map,
+    } = made;
+    let mut entries = entries;
+    looks.exchange();
+    entries.exchange(config);
+    *generated = map;
 }
