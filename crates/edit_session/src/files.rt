@@ -42,12 +42,7 @@ pub(crate) fn put<F: Folder>(
     }
 }
 
-fn lay_file(
-    alloc: Global,
-    looks: &mut Looks,
-    path: &Path,
-    bytes: &Bytes,
-) -> Result<(), Memory>
+fn lay_file(alloc: Global, looks: &mut Looks, path: &Path, bytes: &Bytes) -> Result<(), Memory>
     ensures puts { OnOk result (Puts looks.old.over path.now (File bytes.now) looks.new.over) }
     ensures known { looks.new.known ≡ looks.old.known }
 {

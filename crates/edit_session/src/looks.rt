@@ -129,12 +129,7 @@ impl Looks {
 }
 
 // Makes looks those that are laid, which they are but at some paths.
-fn make_level(
-    alloc: Global,
-    laid: &Over,
-    over: &mut Over,
-    changed: &[Path],
-) -> Result<(), Memory>
+fn make_level(alloc: Global, laid: &Over, over: &mut Over, changed: &[Path]) -> Result<(), Memory>
     requires { AgreeBut changed.now laid.now over.old }
     ensures agree { AgreeBut changed.now laid.now over.new }
     ensures level { OnOk result ((path : List ℕ) → over_at over.new path ≡ over_at laid.now path) }

@@ -109,12 +109,7 @@ impl Session {
         ensures { Commits self.old self.new }
     {
         if let Some(made) = self.pending.take() {
-            step(
-                &mut self.looks,
-                &mut self.config,
-                &mut self.generated,
-                made,
-            );
+            step(&mut self.looks, &mut self.config, &mut self.generated, made);
         }
     }
 
