@@ -1,4 +1,4 @@
-mod Agreement
+mod LooksAgree
 mod AskedPaths
 mod LookedOn
 mod StandingLemmas

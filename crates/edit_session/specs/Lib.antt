@@ -1,6 +1,7 @@
 pub mod EditLooks
-pub mod SessionViews
+pub mod Agreement
 pub mod SessionTrees
+pub mod SessionParts
 pub mod NewLooks
 pub mod Sessions
 pub mod LooksOn

@@ -14,7 +14,8 @@ use Rattle.package_lookup.specs.LaidTrees.{StandsBehind, IsLaid}
 use Rattle.generation.specs.declared.generated.Generated.{Generated}
 use Rattle.session_spec.specs.SessionStates.{Counts, SessionState, config_with}
 use Rattle.edit_session.specs.declared.session.Counts.{Counts as Told}
-use Rattle.edit_session.specs.SessionViews.{Pending, Session}
+use Rattle.edit_session.specs.declared.session.Pending.{Pending}
+use Rattle.edit_session.specs.declared.session.Session.{Session}
 
 abbrev pub counts_in : Generated → Counts
 counts_in generated =

@@ -34,7 +34,8 @@ use Rattle.session_spec.specs.SessionStates.{SessionState, draft_of, config_with
 use Rattle.edit_session.specs.EditLooks.{edit_looks}
 use Rattle.edit_session.specs.NewLooks.{AsksKept, LooksNew}
 use Rattle.edit_session.specs.SessionTrees.{IsSessionOf, IsPendingOf}
-use Rattle.edit_session.specs.SessionViews.{Pending, Session}
+use Rattle.edit_session.specs.declared.session.Pending.{Pending}
+use Rattle.edit_session.specs.declared.session.Session.{Session}
 use Rattle.edit_session.specs.declared.stop.EditStop.{EditStop}
 use Rattle.edit_session.specs.declared.stop.EditStop.TheVariants.{Change as NoChange, Generation, ReadFault, Memory}
 

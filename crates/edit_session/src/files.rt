@@ -1,4 +1,4 @@
-ghost use Rattle.std.specs.Prelude.{not, ◌∷◌, [], OnOk};
+ghost use Rattle.std.specs.Prelude.{◌≡◌, not, ◌∷◌, [], OnOk};
 ghost use Rattle.std.specs.FinMap.{get, remove};
 ghost use Rattle.std.specs.List.{list_all};
 ghost use Rattle.tree_spec.specs.FoldersAbove.{folders_from};

@@ -1,8 +1,8 @@
-ghost use Rattle.std.specs.Prelude.{◌≡◌, List, ℕ, None, OnOk};
-ghost use Rattle.package_lookup.specs.Looked.{over_at, laid_at, Puts};
+ghost use Rattle.std.specs.Prelude.{◌≡◌, List, ℕ, OnOk};
+ghost use Rattle.package_lookup.specs.Looked.{over_at, Puts};
 ghost use Rattle.request_trace.specs.Tracing.{TakesSteps};
 ghost use Rattle.edit_session.specs.SessionTrees.{steps_of};
-ghost use Rattle.edit_session.specs.SessionViews.{AgreeBut};
+ghost use Rattle.edit_session.specs.Agreement.{AgreeBut};
 ghost use Rattle.edit_session.specs.Standings.{Stands};
 ghost use Rattle.edit_session.specs.Trying.{TriesMap};
 
@@ -14,7 +14,6 @@ use package_lookup::{Known, Over};
 use primitives::{Memory, Steps};
 use request_trace::Config;
 use std::alloc::Global;
-use std::marker::Model;
 use std::sync::ledger::Ledger;
 use tree_model::{Folder, Look, Path};
 use tree_spec::LookFault;
@@ -23,37 +22,14 @@ use tree_spec::LookFault;
 /// edit are changed by what the edit says and no more, so an edit costs what it changes, however much is laid.
 #[derive(Drop)]
 pub(crate) struct Looks {
-    known: Known,
-    over: Over,
+    pub(crate) known: Known,
+    pub(crate) over: Over,
     // The paths at which the looks of the edit may be others than those that are laid.
-    changed: Vec<Path>,
-}
-
-impl Model for Looks {
-    ghost use Rattle.edit_session.specs.SessionViews.{Looks as View, AgreeBut};
-
-    ghost Value = { View };
-
-    ghost view = { λ l. record { known = l.known; over = l.over } };
-
-    ghost invariant = { λ l. AgreeBut l.changed.items l.known.laid l.over };
+    pub(crate) changed: Vec<Path>,
+    ghost agree: { AgreeBut changed.items known.laid over },
 }
 
 impl Looks {
-    /// Of what is known, where nothing is laid.
-    pub(crate) fn of(alloc: Global, known: Known) -> Looks
-        requires { (path : List ℕ) → laid_at known path ≡ None }
-        ensures { result.known ≡ known }
-    {
-        let over = Over::new(alloc);
-        let changed = Vec::new(alloc);
-        Looks {
-            known,
-            over,
-            changed,
-        }
-    }
-
     /// Makes the looks of the edit those that are laid.
     pub(crate) fn level(&mut self, alloc: Global) -> Result<(), Memory>
         ensures known { self.new.known ≡ self.old.known }
@@ -116,15 +92,6 @@ impl Looks {
             folder,
             steps,
         )
-    }
-
-    /// Exchanges the looks that are laid with those of the edit.
-    pub(crate) fn exchange(&mut self)
-        ensures laid { self.new.known.laid ≡ self.old.over }
-        ensures over { self.new.over ≡ self.old.known.laid }
-        ensures kept { self.new.known.kept ≡ self.old.known.kept }
-    {
-        self.known.lay(&mut self.over);
     }
 }
 

@@ -1,9 +1,10 @@
-ghost use Rattle.std.specs.Prelude.{◌≡◌, ℕ, List, None, true, is_some, IfOk, OnOk};
+ghost use Rattle.std.specs.Prelude.{◌≡◌, ℕ, List, None, Some, true, is_some, IfOk, IfSome, OnOk};
 ghost use Rattle.generation.specs.declared.generated.Generated.{Generated};
 ghost use Rattle.package_lookup.specs.Looked.{over_at};
 ghost use Rattle.request_trace.specs.Tracing.{TakesSteps};
 ghost use Rattle.edit_session.specs.SessionTrees.{shown_map, shown_counts, counts_told, steps_of, pending_steps};
-ghost use Rattle.edit_session.specs.SessionViews.{shown, pending_over, result_over};
+ghost use Rattle.edit_session.specs.Agreement.{AgreeBut};
+ghost use Rattle.edit_session.specs.SessionParts.{parts, pending_over, result_over};
 ghost use Rattle.edit_session.specs.Sessions.{OpensSession, Prepares, Commits};
 ghost use Rattle.edit_session.specs.Steps.{MakesNext, GeneratesNext, IsStep};
 
@@ -13,14 +14,14 @@ use crate::looks::Looks;
 use crate::made::Made;
 use crate::stop::EditStop;
 use generation::{Generated, Stop, generate_over};
-use package_lookup::Known;
+use package_lookup::{Known, Over};
 use primitives::{Listed, Memory, Steps};
 use request_trace::Config;
 use session_spec::Change;
 use std::alloc::Global;
-use std::marker::Model;
+use std::mem;
 use std::sync::ledger::Ledger;
-use tree_model::Folder;
+use tree_model::{Folder, Path};
 
 /// Changes that are made together, one after another.
 pub type Edit = Listed<Change>;
@@ -33,22 +34,28 @@ pub struct Counts {
     pub mappings: usize,
 }
 
-/// A map that is kept current: what was seen of the folder and what edits laid over it, the config, and the map that is
+/// A map that is kept current: the config, what was seen of the folder, what edits laid over it, and the map that is
 /// generated for these; and beside them what an edit that is prepared would make of them.
 #[derive(Drop)]
 pub struct Session {
-    looks: Looks,
+    known: Known,
     config: Config,
     generated: Generated,
-    pending: Option<Made>,
+    pending: Option<Pending>,
+    // Looks for the next edit, unless what is pending has them; and the paths at which they may be others than those
+    // that are laid.
+    spare: Over,
+    changed: Vec<Path>,
+    ghost spared: { pending ≡ None → AgreeBut changed.items known.laid spare },
+    ghost prepared: { IfSome pending (λ p. AgreeBut changed.items known.laid p.over) },
 }
 
-impl Model for Session {
-    ghost use Rattle.edit_session.specs.SessionViews.{Session as View, shown};
-
-    ghost Value = { View };
-
-    ghost view = { λ s. shown s.looks s.config s.generated s.pending };
+/// What an edit makes of a session: other looks that are laid, other entries, and the map for them.
+#[derive(Drop)]
+pub(crate) struct Pending {
+    pub(crate) over: Over,
+    pub(crate) entries: Entries,
+    pub(crate) generated: Generated,
 }
 
 impl Session {
@@ -65,12 +72,18 @@ impl Session {
         let mut known = Known::new(alloc);
         match generate_over(alloc, folder, &mut known, &config, steps) {
             Err(stop) => Err(stop),
-            Ok(generated) => Ok(Session {
-                looks: Looks::of(alloc, known),
-                config,
-                generated,
-                pending: None,
-            }),
+            Ok(generated) => {
+                let spare = Over::new(alloc);
+                let changed = Vec::new(alloc);
+                Ok(Session {
+                    known,
+                    config,
+                    generated,
+                    pending: None,
+                    spare,
+                    changed,
+                })
+            }
         }
     }
 
@@ -86,21 +99,82 @@ impl Session {
         ensures prepares { Prepares (F.state folder.old) self.old edit.now result (F.state folder.new) self.new }
         ensures steps { TakesSteps result (λ done. pending_steps self.new) steps.old steps.new }
     {
-        self.pending = None;
-        match next(
-            alloc,
-            &mut self.looks,
-            &mut self.config,
-            edit,
-            folder,
-            steps,
-        ) {
-            Err(stop) => Err(stop),
+        let mut looks = self.take_looks(alloc);
+        match next(alloc, &mut looks, &mut self.config, edit, folder, steps) {
+            Err(stop) => {
+                self.put_back(looks);
+                Err(stop)
+            }
             Ok(made) => {
-                self.pending = Some(made);
+                self.put_pending(looks, made);
                 Ok(())
             }
         }
+    }
+
+    // The looks, to be changed by an edit; nothing is pending then.
+    fn take_looks(&mut self, alloc: Global) -> Looks
+        ensures known { result.known ≡ self.old.known }
+        ensures config { self.new.config ≡ self.old.config }
+        ensures generated { self.new.generated ≡ self.old.generated }
+        ensures pending { self.new.pending ≡ None }
+    {
+        let spare = mem::replace(&mut self.spare, Over::new(alloc));
+        let known = mem::replace(&mut self.known, Known::new(alloc));
+        let changed = mem::replace(&mut self.changed, Vec::new(alloc));
+        match self.pending.take() {
+            None => Looks {
+                known,
+                over: spare,
+                changed,
+            },
+            Some(pending) => {
+                let Pending { over, .. } = pending;
+                Looks {
+                    known,
+                    over,
+                    changed,
+                }
+            }
+        }
+    }
+
+    fn put_back(&mut self, looks: Looks)
+        requires { self.old.pending ≡ None }
+        ensures known { self.new.known ≡ looks.known }
+        ensures config { self.new.config ≡ self.old.config }
+        ensures generated { self.new.generated ≡ self.old.generated }
+        ensures pending { self.new.pending ≡ None }
+    {
+        let Looks {
+            known,
+            over,
+            changed,
+        } = looks;
+        self.known = known;
+        self.spare = over;
+        self.changed = changed;
+    }
+
+    fn put_pending(&mut self, looks: Looks, made: Made)
+        ensures known { self.new.known ≡ looks.known }
+        ensures config { self.new.config ≡ self.old.config }
+        ensures generated { self.new.generated ≡ self.old.generated }
+        ensures pending { self.new.pending ≡ Some (pending_over looks.over made) }
+    {
+        let Looks {
+            known,
+            over,
+            changed,
+        } = looks;
+        let Made { entries, generated } = made;
+        self.known = known;
+        self.changed = changed;
+        self.pending = Some(Pending {
+            over,
+            entries,
+            generated,
+        });
     }
 
     /// Makes what is pending the state of the session.
@@ -108,8 +182,14 @@ impl Session {
         requires { is_some self.old.pending ≡ true }
         ensures { Commits self.old self.new }
     {
-        if let Some(made) = self.pending.take() {
-            step(&mut self.looks, &mut self.config, &mut self.generated, made);
+        if let Some(pending) = self.pending.take() {
+            step(
+                &mut self.known,
+                &mut self.config,
+                &mut self.generated,
+                &mut self.spare,
+                pending,
+            );
         }
     }
 
@@ -148,9 +228,10 @@ fn next<F: Folder, L: Ledger>(
     folder: &mut F,
     steps: &mut Steps<L>,
 ) -> Result<Made, EditStop>
-    ensures makes { (generated : Generated) → MakesNext (F.state folder.old) (shown looks.old config.old generated None)
-        edit.now (result_over looks.new.over result) (F.state folder.new)
-        (shown looks.new config.new generated None) }
+    ensures makes { (generated : Generated) → MakesNext (F.state folder.old)
+        (parts looks.old.known config.old generated) edit.now (result_over looks.new.over result)
+        (F.state folder.new) (parts looks.new.known config.new generated) }
+    ensures config { config.new ≡ config.old }
     ensures steps { TakesSteps result (λ made. steps_of made.generated) steps.old steps.new }
 {
     match draft(alloc, looks, config) {
@@ -182,9 +263,10 @@ fn make<F: Folder, L: Ledger>(
 ) -> Result<Made, EditStop>
     requires over { (path : List ℕ) → over_at looks.old.over path ≡ over_at looks.old.known.laid path }
     requires entries { entries ≡ config.old.entries }
-    ensures makes { (generated : Generated) → MakesNext (F.state folder.old) (shown looks.old config.old generated None)
-        edit.now (result_over looks.new.over result) (F.state folder.new)
-        (shown looks.new config.new generated None) }
+    ensures makes { (generated : Generated) → MakesNext (F.state folder.old)
+        (parts looks.old.known config.old generated) edit.now (result_over looks.new.over result)
+        (F.state folder.new) (parts looks.new.known config.new generated) }
+    ensures config { config.new ≡ config.old }
     ensures steps { TakesSteps result (λ made. steps_of made.generated) steps.old steps.new }
 {
     let mut entries = entries;
@@ -204,8 +286,9 @@ fn generate<F: Folder, L: Ledger>(
     steps: &mut Steps<L>,
 ) -> Result<Made, EditStop>
     ensures generates { (generated : Generated) → GeneratesNext (F.state folder.old)
-        (shown looks.old config.old generated None) looks.old.over entries (result_over looks.new.over result)
-        (F.state folder.new) (shown looks.new config.new generated None) }
+        (parts looks.old.known config.old generated) looks.old.over entries (result_over looks.new.over result)
+        (F.state folder.new) (parts looks.new.known config.new generated) }
+    ensures config { config.new ≡ config.old }
     ensures steps { TakesSteps result (λ made. steps_of made.generated) steps.old steps.new }
 {
     let mut entries = entries;
@@ -216,17 +299,27 @@ fn generate<F: Folder, L: Ledger>(
     }
 }
 
-// What is pending takes the place of what was.
-fn step(looks: &mut Looks, config: &mut Config, generated: &mut Generated, made: Made)
-    ensures { IsStep (shown looks.old config.old generated.old None) (pending_over looks.old.over made)
-        (shown looks.new config.new generated.new None) }
+// What is pending takes the place of what was, and the looks that were laid that of the spare ones.
+fn step(
+    known: &mut Known,
+    config: &mut Config,
+    generated: &mut Generated,
+    spare: &mut Over,
+    pending: Pending,
+)
+    ensures step { IsStep (parts known.old config.old generated.old) pending
+        (parts known.new config.new generated.new) }
+    ensures spare { spare.new ≡ known.old.laid }
 {
-    let Made {
+    let Pending {
+        over,
         entries,
         generated: map,
-    } = made;
+    } = pending;
+    let mut over = over;
     let mut entries = entries;
-    looks.exchange();
+    known.lay(&mut over);
     entries.exchange(config);
     *generated = map;
+    *spare = over;
 }

@@ -19,7 +19,7 @@ use Rattle.session_spec.specs.SessionStates.{SessionState, IsGenerated, draft_of
 use Rattle.edit_session.specs.NewLooks.{AsksNew as LooksAsked, LooksNew}
 use Rattle.edit_session.specs.Sessions.{Accepts, Prepares, Commits}
 use Rattle.edit_session.specs.SessionTrees.{IsSessionOf, shown_map, shown_counts}
-use Rattle.edit_session.specs.SessionViews.{Session}
+use Rattle.edit_session.specs.declared.session.Session.{Session}
 use Rattle.edit_session.specs.declared.stop.EditStop.{EditStop}
 use Rattle.edit_session.specs.declared.stop.EditStop.TheVariants as stop
 use Rattle.session_talk.specs.EditorLooks.{LookState, AsksNew, AsksAndKeeps, AsksSome, AsksKeeping, EditAsks}

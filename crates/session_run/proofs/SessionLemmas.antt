@@ -33,7 +33,7 @@ use Rattle.session_spec.specs.Talks.{Standing, begun, Talks, still}
 use Rattle.edit_session.specs.NewLooks.{AsksKept}
 use Rattle.edit_session.specs.Sessions.{IsOpened, OpensSession}
 use Rattle.edit_session.specs.SessionTrees.{shown_counts}
-use Rattle.edit_session.specs.SessionViews.{Session}
+use Rattle.edit_session.specs.declared.session.Session.{Session}
 use Rattle.session_talk.specs.EditorLooks.{LookState, AsksAndKeeps, AsksSome, AsksKeeping}
 use Rattle.session_talk.specs.Editors.{EditorState}
 use Rattle.session_talk.specs.Talking as talking

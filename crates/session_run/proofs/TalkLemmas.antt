@@ -13,7 +13,7 @@ use Rattle.session_input.specs.Readers.{Waiting, waiting, IsFresh}
 use Rattle.session_input.proofs.ReaderLemmas.{takes_none}
 use Rattle.session_spec.specs.SessionStates.{SessionState}
 use Rattle.session_spec.specs.Talks.{Standing, begun, still}
-use Rattle.edit_session.specs.SessionViews.{Session}
+use Rattle.edit_session.specs.declared.session.Session.{Session}
 use Rattle.session_talk.specs.EditorLooks.{AsksSome}
 use Rattle.session_talk.specs.Editors.{EditorState, Seen}
 use Rattle.session_talk.specs.Talking as talking

@@ -13,7 +13,7 @@ use Rattle.package_lookup.specs.Looked.{kept_at}
 use Rattle.session_spec.specs.Replies.{fault_line}
 use Rattle.session_spec.specs.SessionStates.{SessionState}
 use Rattle.edit_session.specs.SessionTrees.{IsSessionOf}
-use Rattle.edit_session.specs.SessionViews.{Session}
+use Rattle.edit_session.specs.declared.session.Session.{Session}
 use Rattle.edit_session.specs.declared.stop.EditStop.{EditStop}
 use Rattle.edit_session.specs.declared.stop.EditStop.TheVariants as stop
 use Rattle.session_talk.specs.EditorLooks.{LookState, AsksSome}

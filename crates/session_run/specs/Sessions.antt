@@ -18,7 +18,7 @@ use Rattle.generator_spec.specs.Statuses.{memory_status, read_fault_status, writ
 use Rattle.session_spec.specs.Replies.{accepted_line}
 use Rattle.session_input.specs.Readers.{Waiting}
 use Rattle.edit_session.specs.SessionTrees.{shown_counts}
-use Rattle.edit_session.specs.SessionViews.{Session as Opened}
+use Rattle.edit_session.specs.declared.session.Session.{Session as Opened}
 use Rattle.session_talk.specs.EditorLooks.{AsksSome}
 use Rattle.session_talk.specs.Editors.{EditorState, Seen}
 use Rattle.session_talk.specs.Talking.{now_at, Converses}

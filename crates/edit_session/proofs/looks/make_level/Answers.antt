@@ -1,4 +1,4 @@
-use Rattle.edit_session.proofs.Agreement.{agrees_there, agrees_as_well, agrees_same, agrees_all}
+use Rattle.edit_session.proofs.LooksAgree.{agrees_there, agrees_as_well, agrees_same, agrees_all}
 use Rattle.edit_session.proofs.looks.make_level.Goals as goal
 
 pub loop-path-preserved : goal.loop-path-preserved

@@ -1,5 +1,5 @@
 use Rattle.std.proofs.Common.{length}
-use Rattle.edit_session.specs.SessionViews.{AgreeBut}
+use Rattle.edit_session.specs.Agreement.{AgreeBut}
 use Rattle.edit_session.proofs.looks.make_level.Given as goal
 
 abbrev pub invariant-loop-path : goal.invariant-loop-path

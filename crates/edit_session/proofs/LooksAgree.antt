@@ -7,7 +7,7 @@ use Rattle.std.proofs.lemmas.Slice.Eq.{bytes_eq-Decides}
 use Rattle.tree_spec.specs.declared.Look.{Look}
 use Rattle.package_lookup.specs.declared.over.Over.{Over}
 use Rattle.package_lookup.specs.Looked.{over_at, Follows, Puts}
-use Rattle.edit_session.specs.SessionViews.{AgreeBut}
+use Rattle.edit_session.specs.Agreement.{AgreeBut}
 
 turned : (path other : List ℕ) → bytes_eq path other ≡ bytes_eq other path
 turned path other = nat_list_eq_equiv.symm path other
