@@ -1,4 +1,4 @@
-ghost use Rattle.std.specs.Prelude.{◌≡◌, ℕ, length, Some, IfOk};
+ghost use Rattle.std.specs.Prelude.{◌≡◌, ℕ, length, Some, IfOk, option_copied};
 ghost use Rattle.tree_spec.specs.LookLimits.{size_at};
 ghost use Rattle.tree_spec.specs.declared.Look.{Look};
 ghost use Rattle.package_lookup.specs.SeenLooks.{entry_of, look_of, look_seen};
@@ -123,6 +123,16 @@ impl Held {
             seen: copy_of(&self.seen)?,
             reading: reading_copy(&self.reading)?,
         })
+    }
+
+    /// What was seen; none where that is a file above the limit.
+    pub fn seen(&self) -> Option<&Seen>
+        ensures { look_of (option_copied result) ≡ self.now }
+    {
+        match &self.seen {
+            None => None,
+            Some(seen) => Some(seen),
+        }
     }
 
     /// What was seen, none where that is a file above the limit, and what was read of it.

@@ -121,7 +121,8 @@ impl Known {
         }
     }
 
-    fn find(&self, path: &Path) -> Option<&Held>
+    /// What is known of a path, without a look: the look that is laid over it, else the one that was kept.
+    pub fn find(&self, path: &Path) -> Option<&Held>
         ensures { option_copied result ≡ known_at self.now path.now }
     {
         match self.laid.find(path) {
