@@ -19,7 +19,6 @@ pub fn outcome_is_certified<X>()
 {}
 
 /// So is what it comes to within limits, by looks at the paths of its question.
-#[tactic(auto, using(crate::proofs::Certifying::end_is_certified))]
 pub fn end_is_certified<X>()
     ensures { EndIsCertified X }
 {}
@@ -31,13 +30,11 @@ pub fn certified_is_asked<X>()
 {}
 
 /// Two certificates by looks that something shows say the same.
-#[tactic(auto, using(crate::proofs::Certifying::one_certified))]
 pub fn one_certified<X>()
     ensures { OneCertified X }
 {}
 
 /// What was seen is seen again exactly where nothing changed.
-#[tactic(auto, using(crate::proofs::Certifying::seen_if_agreed))]
 pub fn seen_if_agreed()
     ensures { SeenIfAgreed }
 {}
