@@ -54,7 +54,7 @@ pub fn request_answer<F: Folder, L: Ledger>(
         Ok(request) => match kept.as_known(known, &request) {
             Some(found) => {
                 request_again(
-                    alloc, known, folder, trail, request, conditions, next, found,
+                    alloc, known, folder, trail, request, next, found,
                 )
             }
             None => request_anew(
