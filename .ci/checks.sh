@@ -59,6 +59,14 @@ digests() {
     [ "$(grep -c '": "sha384-' "$map")" = 9 ]
 }
 
+# Why the older of two versions is loaded there, against lines typed by hand; and of a path to which nothing leads.
+explained() {
+    (cd "$kept/packages" && "$program" why /node_modules/cards/node_modules/numbers/lib/numbers.js >"$kept/out") &&
+        diff examples/expected-why.txt "$kept/out" || return 1
+    (cd "$kept/packages" && "$program" why /node_modules/cards/server.js >"$kept/out")
+    [ $? = 10 ] && echo 'not reached: "/node_modules/cards/server.js"' | diff - "$kept/out"
+}
+
 # The page of the examples becomes the one with the map that was typed by hand, which lies beside it: once and again, in
 # a copy, and nothing else is written.
 injected() {
@@ -147,6 +155,7 @@ check "build.sh" ./build.sh
 check "the example" example
 check "the example with packages" packages
 check "digests by other programs" digests
+check "why a file is loaded" explained
 check "the page of the examples" injected
 check "the page of packages" injected_packages
 check "the example with a map written by hand" checked

@@ -416,7 +416,8 @@ says plain 2 'words: BadPath "/"' '' link --page / --base https://app.test/ x
 says plain 2 'words: BadConditions "a,a"' '' link --conditions=a,a x
 says plain 2 'words: not plain' '' link ./app.mjs --base https://app.test/
 says plain 0 'measure 3: 8 modules, 12 requests, 5 mappings' '' measure 3
-for command in refresh check inject list session 'unlink x'; do
+says plain 2 'words: BadPath "app.mjs"' '' why app.mjs
+for command in refresh check inject list session 'why /app.mjs' 'unlink x'; do
     says plain 7 'bad file: project absent' '' $command
 done
 

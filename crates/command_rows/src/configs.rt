@@ -103,6 +103,10 @@ fn after(alloc: Global, row: &str, found: Option<Config>, said: &mut Said) -> Op
             said.push("session");
             None
         }
+        Ok(Wanted::Why { path }) => {
+            push_named("why ", &path, said);
+            None
+        }
         Err(fault) => {
             push_words_fault(&fault, said);
             None

@@ -60,6 +60,11 @@ fn push_measure(number: u64, said: &mut Said) {
     said.push_number(number);
 }
 
+fn push_why(path: &str, said: &mut Said) {
+    said.push("why");
+    push_bracketed(path, said);
+}
+
 fn push_command(command: &Command<'_>, said: &mut Said) {
     match command {
         Command::Link(values, entries) => push_link(values, entries, said),
@@ -69,6 +74,7 @@ fn push_command(command: &Command<'_>, said: &mut Said) {
         Command::List => said.push("list"),
         Command::Inject => said.push("inject"),
         Command::Session => said.push("session"),
+        Command::Why(path) => push_why(*path, said),
         Command::Measure(number) => push_measure(*number, said),
     }
 }

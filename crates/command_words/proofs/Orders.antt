@@ -1,5 +1,5 @@
 -- What options set, and orders of what is asked for.
-use Rattle.std.proofs.Common.{◌≡◌, ℕ, Bool, true, false, Bor, List, Option, Some, None, Result, Ok, Err, codes, refl, sym, subst}
+use Rattle.std.proofs.Common.{◌≡◌, ℕ, Bool, true, false, Bor, List, Option, Some, None, Result, Ok, Err, codes, refl, sym, ap, subst}
 use Rattle.std.specs.Prelude.{MatchResult, option_map, bytes_eq}
 use Rattle.std.proofs.lemmas.Slice.Eq.{bytes_eq-Decides}
 use Rattle.node_spec.specs.Conditions.{AreConditions, names_in}
@@ -9,7 +9,7 @@ use Rattle.config_spec.specs.Words.{Sets, SetsBase, SetsPage, SetsConditions}
 use Rattle.config_spec.specs.Words.SetsBase.{given as some_base}
 use Rattle.config_spec.specs.Words.SetsPage.{none as no_page, given as some_page}
 use Rattle.config_spec.specs.Words.SetsConditions.{given as some_conditions}
-use Rattle.words_spec.specs.PlainWords.{Asked, Asks}
+use Rattle.words_spec.specs.PlainWords.{Asked, Asks, explaining}
 use Rattle.command_words.specs.declared.fault.WordsFault.{WordsFault}
 use Rattle.command_words.specs.declared.order.Order.{Order}
 use Rattle.command_words.specs.Settings.{IsFilePage}
@@ -48,11 +48,15 @@ set_is_file (Some text) (Some found) (some_page other is_page) = is_page.no_root
 
 -- ---- orders
 
+pub path_asked : (text path : List ℕ) → path ≡ text → IsPath text → IsWantedOf (wanted.Why path) (explaining text)
+path_asked text path same is = record { is = ap explaining (sym same); is_path = subst IsPath (sym same) is }
+
 pub same_asked : (order : Order) (asked other : Asked) → asked ≡ other → IsOrderOf order other → IsOrderOf order asked
 same_asked order asked other same is = subst (IsOrderOf order) (sym same) is
 
 pub of_words : (texts : List (List ℕ)) (asked : Asked) (result : Result Wanted WordsFault) → Asks texts asked → MatchResult result (λ wanted. IsWantedOf wanted asked) (RefusesAs (RefusesOrder asked)) → MatchResult result (IsWanted texts) (Explains texts)
 of_words texts asked (Ok (wanted.Order order)) asks is = record { asked = asked; asks = asks; is_order = is }
+of_words texts asked (Ok (wanted.Why path)) asks is = record { asks = subst (Asks texts) is.is asks; is_path = is.is_path }
 of_words texts asked (Ok (wanted.Measure number)) asks is = subst (Asks texts) is asks
 of_words texts asked (Ok wanted.Session) asks is = subst (Asks texts) is asks
 of_words texts asked (Err fault) asks refuses = words_refused texts asked fault asks refuses

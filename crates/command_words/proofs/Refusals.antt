@@ -6,11 +6,12 @@ use Rattle.config_spec.specs.declared.ConfigFault.TheVariants as config
 use Rattle.config_spec.specs.declared.Command.TheVariants.{Link}
 use Rattle.config_spec.specs.Words.{RefusesOptions, RefusesWords, SetsBase, SetsPage}
 use Rattle.config_spec.specs.Words.RefusesOptions.{bad_base, bad_path, bad_conditions}
-use Rattle.config_spec.specs.Words.RefusesWords.{bad_option as words_bad_option}
-use Rattle.words_spec.specs.PlainWords.{Asked, Asks, LinkOptions, linking}
+use Rattle.config_spec.specs.Words.RefusesWords.{bad_option as words_bad_option, bad_file as words_bad_file}
+use Rattle.tree_spec.specs.Paths.{IsPath}
+use Rattle.words_spec.specs.PlainWords.{Asked, Asks, LinkOptions, linking, explaining}
 use Rattle.command_words.specs.declared.fault.WordsFault.{WordsFault}
 use Rattle.command_words.specs.declared.fault.WordsFault.TheVariants.{Told, NotPlain, Refused, Memory}
-use Rattle.command_words.specs.Faults.{RefusesAs, IsBadBase, IsBadPath, IsBadConditions, RefusesOrder, bad_option, Explains}
+use Rattle.command_words.specs.Faults.{RefusesAs, IsBadBase, IsBadPath, IsBadConditions, RefusesOrder, bad_option, bad_file, Explains}
 
 -- ---- the options, in their order
 
@@ -40,10 +41,17 @@ link_refused given entries NotPlain refuses = refuses
 link_refused given entries (Refused fault) refuses = bad_option Link fault refl refuses
 link_refused given entries Memory refuses = tt
 
+pub path_refused : (path : List ℕ) (fault : WordsFault) → (IsPath path → ⊥) → RefusesAs (λ other. other ≡ config.BadPath path) fault → RefusesAs (RefusesOrder (explaining path)) fault
+path_refused path (Told told) none refuses = refuses
+path_refused path NotPlain none refuses = refuses
+path_refused path (Refused fault) none refuses = subst (RefusesOrder (explaining path)) (sym refuses) (bad_file path refl none)
+path_refused path Memory none refuses = tt
+
 -- ---- words
 
 of_asked : (texts : List (List ℕ)) (asked : Asked) (fault : ConfigFault) → Asks texts asked → RefusesOrder asked fault → RefusesWords texts fault
 of_asked texts asked fault asks (bad_option command other is refuses) = words_bad_option asked command other asks is refuses
+of_asked texts asked fault asks (bad_file path same none) = words_bad_file path (subst (Asks texts) same asks) none
 
 pub words_refused : (texts : List (List ℕ)) (asked : Asked) (fault : WordsFault) → Asks texts asked → RefusesAs (RefusesOrder asked) fault → Explains texts fault
 words_refused texts asked (Told told) asks refuses = absurd refuses

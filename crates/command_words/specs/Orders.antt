@@ -2,14 +2,18 @@
 --     command_ordered order, settings_ordered order      its command, and what its options set
 --     IsOrderOf order asked      the order is what is asked for
 --     IsOrder words order        it is what these words ask for
---     IsWantedOf wanted asked    what is wanted is what is asked for: an order, a measure or a session
+--     ExplainsAt path asked      it is asked why the file at this path is loaded
+--     AsksWhyAt words path       so do these words
+--     IsWantedOf wanted asked    what is wanted is what is asked for: an order, why a file is loaded, a measure or a
+--                                session
 --     IsWanted words wanted      it is what these words ask for
 use Rattle.std.specs.Prelude.{◌≡◌, ℕ, List, Some, map, string_bytes}
+use Rattle.tree_spec.specs.Paths.{IsPath}
 use Rattle.config_spec.specs.declared.Command.{Command}
 use Rattle.config_spec.specs.declared.Command.TheVariants as command
-use Rattle.config_spec.specs.Words.{Settings, Sets, no_settings, command_of, options_of, Measures, IsSession}
+use Rattle.config_spec.specs.Words.{Settings, Sets, no_settings, command_of, options_of, AsksWhy, Measures, IsSession}
 use Rattle.words_spec.specs.PlainWords.{Asked, Asks, LinkOptions, linking, unlinking, refreshing, checking, listing}
-use Rattle.words_spec.specs.PlainWords.{injecting, editing, measuring}
+use Rattle.words_spec.specs.PlainWords.{injecting, editing, explaining, measuring}
 use Rattle.command_words.specs.declared.order.Order.{Order}
 use Rattle.command_words.specs.declared.order.Order.TheVariants.{Link, Unlink, Refresh, Check, Inject}
 use Rattle.command_words.specs.declared.order.Order.TheVariants as order
@@ -52,12 +56,23 @@ pub record IsOrder (words : List (List ℕ)) (order : Order) : Type 0 where
   pub asks : Asks words asked
   pub is_order : IsOrderOf order asked
 
+-- own: a file is asked for by its path
+pub record ExplainsAt (path : List ℕ) (asked : Asked) : Type 0 where
+  pub is : asked ≡ explaining path
+  pub is_path : IsPath path
+
+pub record AsksWhyAt (words : List (List ℕ)) (path : List ℕ) : Type 0 where
+  pub asks : AsksWhy words path
+  pub is_path : IsPath path
+
 abbrev pub IsWantedOf : Wanted → Asked → Type 0
 IsWantedOf (wanted.Order order) asked = IsOrderOf order asked
+IsWantedOf (wanted.Why path) asked = ExplainsAt path asked
 IsWantedOf (wanted.Measure number) asked = asked ≡ measuring number
 IsWantedOf wanted.Session asked = asked ≡ editing
 
 abbrev pub IsWanted : List (List ℕ) → Wanted → Type 0
 IsWanted words (wanted.Order order) = IsOrder words order
+IsWanted words (wanted.Why path) = AsksWhyAt words path
 IsWanted words (wanted.Measure number) = Measures words number
 IsWanted words wanted.Session = IsSession words

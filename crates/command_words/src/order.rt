@@ -1,13 +1,14 @@
 ghost use Rattle.std.specs.Prelude.{◌≡◌, MatchResult, Some, map, string_bytes};
 ghost use Rattle.words_read.specs.Shown.{options_of, shown};
-ghost use Rattle.words_spec.specs.PlainWords.{linking};
+ghost use Rattle.words_spec.specs.PlainWords.{linking, explaining};
 ghost use Rattle.command_words.specs.Faults.{Explains, RefusesAs, RefusesOrder};
 ghost use Rattle.command_words.specs.Orders.{IsOrderOf, IsWanted, IsWantedOf, command_ordered};
 
 use crate::fault::WordsFault;
-use crate::settings::{Settings, settings_of};
+use crate::settings::{Settings, bad_path, settings_of};
 use config_spec::Command;
 use std::alloc::Global;
+use tree_model::{Path, PathFault};
 use words_parse::{Command as Parsed, LinkValues, WordsFault as ParseFault, parse};
 
 /// A command on the project of a folder. Entries are the last of the words, as they stand there.
@@ -53,6 +54,8 @@ impl<'a> Order<'a> {
 pub enum Wanted<'a> {
     /// A command on the project of a folder.
     Order(Order<'a>),
+    /// The shortest chain of requests that leads from the page to the file at this path.
+    Why { path: Path },
     /// The map of a stated tree of so many packages.
     Measure { number: u64 },
     /// A session on the project of a folder.
@@ -83,6 +86,7 @@ fn order_parsed<'a>(alloc: Global, parsed: Parsed<'a>) -> Result<Wanted<'a>, Wor
         Parsed::Inject => Ok(Wanted::Order(Order::Inject)),
         Parsed::List => Ok(Wanted::Order(Order::List)),
         Parsed::Session => Ok(Wanted::Session),
+        Parsed::Why(text) => why_wanted(alloc, text),
         Parsed::Measure(number) => Ok(Wanted::Measure { number }),
     }
 }
@@ -99,5 +103,16 @@ fn link_order<'a>(
     match settings_of(alloc, values) {
         Ok(settings) => Ok(Wanted::Order(Order::Link { settings, entries })),
         Err(fault) => Err(fault),
+    }
+}
+
+fn why_wanted<'a>(alloc: Global, text: &str) -> Result<Wanted<'a>, WordsFault>
+    ensures { MatchResult result (λ wanted. IsWantedOf wanted (explaining text.now))
+        (RefusesAs (RefusesOrder (explaining text.now))) }
+{
+    match Path::parse(alloc, text) {
+        Ok(path) => Ok(Wanted::Why { path }),
+        Err(PathFault::Memory) => Err(WordsFault::Memory),
+        Err(PathFault::BadPath) => Err(bad_path(alloc, text)),
     }
 }

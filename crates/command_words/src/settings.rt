@@ -109,7 +109,8 @@ fn page_set(alloc: Global, text: Option<&str>) -> Result<Option<Path>, WordsFaul
     }
 }
 
-fn bad_path(alloc: Global, text: &str) -> WordsFault
+// The refusal of a text that isn't the path that it has to be.
+pub(crate) fn bad_path(alloc: Global, text: &str) -> WordsFault
     ensures { RefusesAs (λ fault. fault ≡ ConfigFault.BadPath text.now) result }
 {
     match Text::of(alloc, text) {

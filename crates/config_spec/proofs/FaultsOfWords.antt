@@ -15,7 +15,7 @@ use Rattle.tree_spec.specs.declared.LimitName.TheVariants.{Entries}
 use Rattle.tree_spec.proofs.FootprintSets.{distinct_none}
 use Rattle.trace_spec.specs.Modules.{Config}
 use Rattle.words_spec.specs.PlainWords.{Asked, Asks, LinkOptions, linking, unlinking, refreshing, checking}
-use Rattle.words_spec.specs.PlainWords.{listing, injecting, editing, measuring}
+use Rattle.words_spec.specs.PlainWords.{listing, injecting, editing, explaining, measuring}
 use Rattle.project_spec.specs.ProjectFiles as project
 use Rattle.project_spec.specs.ProjectFiles.{BadFile, Gives, PassesLimit, ReadsProject, reads_project, many_entries}
 use Rattle.project_spec.specs.ProjectFiles.{no_project, no_json, deep_json}
@@ -175,6 +175,8 @@ refuses_in injecting settings found fault sets is =
     there_refuses injecting Ok found fault (λ options others e. absurd (cc)) (never_refuses injecting fault) is
 refuses_in editing settings found fault sets is =
     there_refuses editing Ok found fault (λ options others e. absurd (cc)) (never_refuses editing fault) is
+refuses_in (explaining path) settings found fault sets is =
+    there_refuses (explaining path) Ok found fault (λ options others e. absurd (cc)) (never_refuses (explaining path) fault) is
 refuses_in (measuring number) settings found fault sets is =
     there_refuses (measuring number) Ok found fault (λ options others e. absurd (cc))
     (never_refuses (measuring number) fault) is

@@ -1,16 +1,22 @@
 -- Words ask for one command, are refused in one way, or ask for one measure or for a session.
-use Rattle.std.proofs.Common.{◌≡◌, ◌⊎◌, ℕ, List, Option, Some, None, refl, sym, ap, ◌∙◌, subst, inl, inr}
+use Rattle.std.proofs.Common.{◌≡◌, ◌⊎◌, ℕ, Bool, true, false, List, Option, Some, None, refl, sym, ap, ◌∙◌, subst, inl, inr}
+use Rattle.std.specs.Prelude.{if◌then◌else◌}
+use Rattle.tree_spec.specs.Paths.{IsPath}
+use Rattle.url_spec.proofs.PathDecisions.{path_by_test, test_by_path}
+use Rattle.url_spec.specs.PathTests.{is_path}
 use Rattle.words_spec.proofs.PlainIsRead.{one_asked, plain_is_read}
 use Rattle.words_spec.proofs.ReadIsPlain.{read_is_plain}
 use Rattle.words_spec.specs.PlainWords.{Asked, Asks, linking, unlinking, refreshing, checking, listing, injecting}
-use Rattle.words_spec.specs.PlainWords.{editing, measuring}
+use Rattle.words_spec.specs.PlainWords.{editing, explaining, measuring}
 use Rattle.words_spec.specs.Reading.{reading_of}
 use Rattle.config_spec.proofs.Options.{one_options_fault, set_or_fault, set_or_refused}
 use Rattle.config_spec.specs.Laws.{WordsAreJudged}
 use Rattle.config_spec.specs.Words.{command_of, IsCommandOf, IsPlain, IsSession, Measures, options_of, RefusesOptions, RefusesWords}
-use Rattle.config_spec.specs.Words.RefusesWords.{bad_option}
+use Rattle.config_spec.specs.Words.RefusesWords.{bad_option, bad_file}
 use Rattle.config_spec.specs.declared.Command.{Command}
+use Rattle.config_spec.specs.declared.Command.TheVariants.{Why}
 use Rattle.config_spec.specs.declared.ConfigFault.{ConfigFault}
+use Rattle.config_spec.specs.declared.ConfigFault.TheVariants.{BadPath}
 
 -- ---- one at most
 
@@ -27,6 +33,41 @@ built :
 built some other command same is none =
     let e : Some command ≡ None = sym is ∙ (ap command_of same ∙ none) in absurd (cc)
 
+-- a file is asked for by a path
+pub path_explained : (path : List ℕ) (command : Command) → command_of (explaining path) ≡ Some command → IsPath path
+path_explained path command is = by (is_path path) refl is
+  where
+    by : (test : Bool) → is_path path ≡ test → (if test then Some Why else None) ≡ Some command → IsPath path
+    by true e is = path_by_test path e
+    by false e is = absurd (cc)
+
+pub explained_path : (path : List ℕ) → IsPath path → command_of (explaining path) ≡ Some Why
+explained_path path is = ap (λ test. if test then Some Why else None) (test_by_path path is)
+
+-- what is asked why is asked by a path
+pub record IsExplaining (asked : Asked) : Type 0 where
+  pub path : List ℕ
+  pub is : asked ≡ explaining path
+
+pub why_explains : (asked : Asked) → command_of asked ≡ Some Why → IsExplaining asked
+why_explains (linking options entries) e = absurd (cc)
+why_explains (unlinking entries) e = absurd (cc)
+why_explains refreshing e = absurd (cc)
+why_explains checking e = absurd (cc)
+why_explains listing e = absurd (cc)
+why_explains injecting e = absurd (cc)
+why_explains editing e = absurd (cc)
+why_explains (explaining path) e = record { path = path; is = refl }
+why_explains (measuring number) e = absurd (cc)
+
+-- so what is asked for by no path is no command
+no_path_asks :
+    (words : List (List ℕ)) (path : List ℕ) (asked : Asked) (command : Command) → Asks words (explaining path)
+    → (IsPath path → ⊥) → Asks words asked → command_of asked ≡ Some command → ⊥
+no_path_asks words path asked command asks none asks_too is =
+    none (path_explained path command
+    (subst (λ a. command_of a ≡ Some command) (one_asked words asked (explaining path) asks_too asks) is))
+
 one_command :
     (words : List (List ℕ)) (some other : Command) → IsCommandOf words some → IsCommandOf words other → some ≡ other
 one_command words some other a b =
@@ -40,6 +81,12 @@ one_fault words some other (bad_option asked command fault asks is refuses)
     let same = one_asked words asked_too asked asks_too asks in
     one_options_fault (options_of asked) some other refuses
     (subst (λ a. RefusesOptions (options_of a) other) same refuses_too)
+one_fault words some other (bad_file path asks none) (bad_option asked command why asks_too is refuses) =
+    absurd (no_path_asks words path asked command asks none asks_too is)
+one_fault words some other (bad_option asked command why asks_too is refuses) (bad_file path asks none) =
+    absurd (no_path_asks words path asked command asks none asks_too is)
+one_fault words some other (bad_file path asks none) (bad_file path_too asks_too none_too) =
+    let same : explaining path ≡ explaining path_too = one_asked words (explaining path) (explaining path_too) asks asks_too in cc
 
 not_both :
     (words : List (List ℕ)) (command : Command) (fault : ConfigFault) → IsCommandOf words command
@@ -48,6 +95,8 @@ not_both words command fault is (bad_option asked command_too fault_too asks is_
     let same = one_asked words asked is.asked asks is.asks in
     set_or_refused (options_of is.asked) is.settings fault is.sets
     (subst (λ a. RefusesOptions (options_of a) fault) same refuses)
+not_both words command fault is (bad_file path asks none) =
+    no_path_asks words path is.asked command asks none is.asks is.is
 
 one_measure : (words : List (List ℕ)) (some other : ℕ) → Measures words some → Measures words other → some ≡ other
 one_measure words some other asks too =
@@ -60,6 +109,8 @@ no_command words number command asks is =
 no_fault : (words : List (List ℕ)) (number : ℕ) (fault : ConfigFault) → Measures words number → RefusesWords words fault → ⊥
 no_fault words number fault asks (bad_option asked command why asks_too is refuses) =
     built asked (measuring number) command (one_asked words asked (measuring number) asks_too asks) is refl
+no_fault words number fault asks (bad_file path asks_too none) =
+    let same : explaining path ≡ measuring number = one_asked words (explaining path) (measuring number) asks_too asks in absurd (cc)
 
 session_or_command : (words : List (List ℕ)) (command : Command) → IsSession words → IsCommandOf words command → ⊥
 session_or_command words command asks is = built is.asked editing command (one_asked words is.asked editing is.asks asks) is.is refl
@@ -67,6 +118,8 @@ session_or_command words command asks is = built is.asked editing command (one_a
 session_or_fault : (words : List (List ℕ)) (fault : ConfigFault) → IsSession words → RefusesWords words fault → ⊥
 session_or_fault words fault asks (bad_option asked command why asks_too is refuses) =
     built asked editing command (one_asked words asked editing asks_too asks) is refl
+session_or_fault words fault asks (bad_file path asks_too none) =
+    let same : explaining path ≡ editing = one_asked words (explaining path) editing asks_too asks in absurd (cc)
 
 session_or_measure : (words : List (List ℕ)) (number : ℕ) → IsSession words → Measures words number → ⊥
 session_or_measure words number asks asks_too =
@@ -83,7 +136,17 @@ AreRefused words = (fault : ConfigFault) × RefusesWords words fault
 abbrev HaveNumber : List (List ℕ) → Type 0
 HaveNumber words = (number : ℕ) × Measures words number
 
--- without a command it is a session or a measure
+-- what isn't a path is refused
+without_path :
+    (words : List (List ℕ)) (path : List ℕ) → Asks words (explaining path) → command_of (explaining path) ≡ None
+    → AreRefused words
+without_path words path asks e = (
+  BadPath path,
+  bad_file path asks
+      (λ is. let wrong : Some Why ≡ None = sym (explained_path path is) ∙ e in absurd (cc)),
+)
+
+-- without a command it is a session or a measure, or refused
 without_command :
     (words : List (List ℕ)) (asked : Asked) → Asks words asked → command_of asked ≡ None
     → HaveCommand words ⊎ (AreRefused words ⊎ (HaveNumber words ⊎ IsSession words))
@@ -94,6 +157,7 @@ without_command words checking asks e = absurd (cc)
 without_command words listing asks e = absurd (cc)
 without_command words injecting asks e = absurd (cc)
 without_command words editing asks e = inr (inr (inr asks))
+without_command words (explaining path) asks e = inr (inl (without_path words path asks e))
 without_command words (measuring number) asks e = inr (inr (inl (number, asks)))
 
 command_by :

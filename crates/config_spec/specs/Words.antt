@@ -1,5 +1,5 @@
 -- What the words of a command line say of a command, before any look.
---     command_of asked                  the command that is asked for, where it is built
+--     command_of asked                  the command that is asked for, where there is one
 --     options_of asked                  the options that stand in the words
 --     Settings, Sets options settings   what the texts of the options give
 --     no_settings                       no option is given
@@ -7,21 +7,26 @@
 --     IsPlain words                     the words have a meaning
 --     IsCommandOf words command         they ask for this command, and none of their texts is refused
 --     Measures words number             they ask for the map of a stated tree of so many packages
+--     AsksWhy words path                they ask why the file at this path is loaded
 --     IsSession words                   they ask for a session on a project
---     RefusesWords words fault          plain words that ask for a command and have such a text
-use Rattle.std.specs.Prelude.{◌≡◌, ℕ, List, Option, Some, None}
+--     RefusesWords words fault          plain words that ask for a command and have such a text, or that ask for a file
+--                                       by what isn't a path
+use Rattle.std.specs.Prelude.{◌≡◌, ℕ, List, Option, Some, None, if◌then◌else◌}
+use Rattle.tree_spec.specs.Paths.{IsPath}
 use Rattle.url_spec.specs.Bases.{base_of}
+use Rattle.url_spec.specs.PathTests.{is_path}
 use Rattle.node_spec.specs.Conditions.{AreConditions, names_in}
 use Rattle.project_spec.specs.ProjectFiles.{IsPagePath}
 use Rattle.words_spec.specs.PlainWords.{Asked, Asks, LinkOptions, no_options, linking, unlinking, refreshing, checking}
-use Rattle.words_spec.specs.PlainWords.{listing, injecting, editing, measuring}
+use Rattle.words_spec.specs.PlainWords.{listing, injecting, editing, explaining, measuring}
 use Rattle.config_spec.specs.declared.Command.{Command}
-use Rattle.config_spec.specs.declared.Command.TheVariants.{Link, Unlink, Refresh, Inject, Check}
+use Rattle.config_spec.specs.declared.Command.TheVariants.{Link, Unlink, Refresh, Inject, Check, Why}
 use Rattle.config_spec.specs.declared.Command.TheVariants.{List as Lists}
 use Rattle.config_spec.specs.declared.ConfigFault.{ConfigFault}
 use Rattle.config_spec.specs.declared.ConfigFault.TheVariants.{BadBase, BadPath, BadConditions}
 
--- own: a session is no command that ends by itself, and a measure needs no project
+-- own: a session is no command that ends by itself, a measure needs no project, and no file is asked for by what
+-- isn't a path
 abbrev pub command_of : Asked → Option Command
 command_of (linking options entries) = Some Link
 command_of (unlinking entries) = Some Unlink
@@ -30,6 +35,7 @@ command_of checking = Some Check
 command_of injecting = Some Inject
 command_of listing = Some Lists
 command_of editing = None
+command_of (explaining path) = if is_path path then Some Why else None
 command_of (measuring number) = None
 
 abbrev pub options_of : Asked → LinkOptions
@@ -40,6 +46,7 @@ options_of checking = no_options
 options_of injecting = no_options
 options_of listing = no_options
 options_of editing = no_options
+options_of (explaining path) = no_options
 options_of (measuring number) = no_options
 
 -- ---- options
@@ -101,6 +108,9 @@ pub record IsCommandOf (words : List (List ℕ)) (command : Command) : Type 0 wh
 abbrev pub Measures : List (List ℕ) → ℕ → Type 0
 Measures words number = Asks words (measuring number)
 
+abbrev pub AsksWhy : List (List ℕ) → List ℕ → Type 0
+AsksWhy words path = Asks words (explaining path)
+
 abbrev pub IsSession : List (List ℕ) → Type 0
 IsSession words = Asks words editing
 
@@ -108,3 +118,4 @@ pub data RefusesWords (words : List (List ℕ)) : ConfigFault → Type 0 where
   bad_option :
       (asked : Asked) (command : Command) (fault : ConfigFault) → Asks words asked → command_of asked ≡ Some command
       → RefusesOptions (options_of asked) fault → RefusesWords words fault
+  bad_file : (path : List ℕ) → AsksWhy words path → (IsPath path → ⊥) → RefusesWords words (BadPath path)

@@ -13,12 +13,13 @@ use Rattle.tree_spec.specs.declared.LimitName.TheVariants.{Entries, File}
 use Rattle.tree_spec.specs.Limits.{limit_number}
 use Rattle.trace_spec.specs.Modules.{Config}
 use Rattle.words_spec.specs.PlainWords.{LinkOptions, no_options, linking, unlinking, refreshing, checking}
-use Rattle.words_spec.specs.PlainWords.{listing, injecting}
-use Rattle.config_spec.specs.declared.Command.TheVariants.{Link}
+use Rattle.words_spec.specs.PlainWords.{listing, injecting, explaining}
+use Rattle.config_spec.specs.declared.Command.TheVariants.{Link, Why}
 use Rattle.config_spec.specs.declared.ProjectFault.TheVariants.{Absent, TooLarge, NotProject}
 use Rattle.config_spec.specs.declared.ConfigFault.TheVariants.{BadBase, BadPath, BadConditions, Project}
 use Rattle.config_spec.specs.declared.ConfigFault.TheVariants.{NoBase, NotLinked, TooManyEntries}
-use Rattle.config_spec.specs.Words.{Settings, Sets, no_settings, RefusesOptions, IsSession, Measures, RefusesWords}
+use Rattle.config_spec.specs.Words.{Settings, Sets, no_settings, RefusesOptions, IsCommandOf, IsSession, Measures}
+use Rattle.config_spec.specs.Words.{RefusesWords}
 use Rattle.config_spec.specs.Projects.{project_path, config_by, IsConfigOf, RefusesConfig}
 
 -- ---- options
@@ -140,6 +141,7 @@ pub record ProjectExamples : Type 0 where
   pub refresh_nothing : config_by refreshing no_settings (Ok None) ≡ Err (Project Absent)
   pub list : config_by listing no_settings (Ok (Some site)) ≡ Ok site
   pub list_nothing : config_by listing no_settings (Ok None) ≡ Err (Project Absent)
+  pub why : config_by (explaining (codes "/a.mjs")) no_settings (Ok (Some site)) ≡ Ok site
   pub check_nothing : config_by checking no_settings (Ok None) ≡ Err (Project Absent)
   pub inject_large : config_by injecting no_settings (Err TooLarge) ≡ Err (Project TooLarge)
 
@@ -160,6 +162,11 @@ pub record EntryExamples : Type 0 where
 pub record WordExamples : Type 0 where
   pub session : IsSession (codes "session" ∷ [])
   pub measured : Measures (codes "measure" ∷ codes "200" ∷ []) 200
+  pub why : IsCommandOf (codes "why" ∷ codes "/a.mjs" ∷ []) Why
+  pub why_root : IsCommandOf (codes "why" ∷ codes "/" ∷ []) Why
+  pub why_no_path : RefusesWords (codes "why" ∷ codes "a.mjs" ∷ []) (BadPath (codes "a.mjs"))
+  pub why_up : RefusesWords (codes "why" ∷ codes "/a/../b.mjs" ∷ []) (BadPath (codes "/a/../b.mjs"))
+  pub why_nothing : RefusesConfig (codes "why" ∷ codes "/a.mjs" ∷ []) bare_tree (Project Absent)
   pub no_base : RefusesConfig (codes "link" ∷ codes "./app.mjs" ∷ []) bare_tree NoBase
   pub refresh_nothing : RefusesConfig (codes "refresh" ∷ []) bare_tree (Project Absent)
   pub folder :

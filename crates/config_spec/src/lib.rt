@@ -25,6 +25,8 @@ pub enum Command {
     Check,
     /// The modules, each with the number of its requests.
     List,
+    /// The shortest chain of requests that leads from the page to a file.
+    Why,
 }
 
 /// Why there is no project. A place is an offset in the file, in bytes.
@@ -45,7 +47,7 @@ pub enum ProjectFault {
 pub enum ConfigFault {
     /// A text that gives no base.
     BadBase { text: Text },
-    /// A text that is no page's path.
+    /// A text that is no page's path, or no path at all.
     BadPath { text: Text },
     /// A text that gives no conditions.
     BadConditions { text: Text },

@@ -1,4 +1,4 @@
-ghost use Rattle.std.specs.Prelude.{◌+◌, length};
+ghost use Rattle.std.specs.Prelude.{◌≡◌, ◌+◌, IfOk, length};
 ghost use Rattle.request_trace.specs.Showing.{gathered_of};
 ghost use Rattle.request_trace.specs.Tracing.{TakesSteps};
 ghost use Rattle.generation.specs.Generating.{Tracing, TracingOver};
@@ -20,6 +20,7 @@ pub fn traced<F: Folder, L: Ledger>(
     steps: &mut Steps<L>,
 ) -> Result<Trace, Stop>
     ensures traces { Tracing config.now (F.state folder.old) (gathered_of result) (F.state folder.new) }
+    ensures entries { IfOk result (λ trace. length trace.links.roots ≡ length config.now.entries) }
     ensures steps { TakesSteps result (λ trace. length trace.gathered.modules + length trace.gathered.targets)
         steps.old steps.new }
 {
@@ -37,6 +38,7 @@ pub(crate) fn traced_over<F: Folder, L: Ledger>(
 ) -> Result<Trace, Stop>
     ensures traces { TracingOver config.now (F.state folder.old) known.old (gathered_of result) (F.state folder.new)
         known.new }
+    ensures entries { IfOk result (λ trace. length trace.links.roots ≡ length config.now.entries) }
     ensures steps { TakesSteps result (λ trace. length trace.gathered.modules + length trace.gathered.targets)
         steps.old steps.new }
 {

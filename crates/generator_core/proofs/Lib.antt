@@ -5,5 +5,9 @@ pub mod ReportLemmas
 pub mod Configurings
 pub mod Runs
 pub mod Listings
+pub mod MappedChains
+pub mod LoadedBy
+pub mod ToldChains
+pub mod Explainings
 pub mod Measurings
 pub mod HeldSessions

@@ -8,11 +8,13 @@ use Rattle.tree_spec.specs.Trees.{Tree, Places}
 use Rattle.tree_spec.proofs.ToldStates.{if_some}
 use Rattle.trace_spec.specs.Modules.{Config}
 use Rattle.config_spec.specs.declared.Command.{Command}
+use Rattle.config_spec.specs.declared.Command.TheVariants.{Why}
 use Rattle.config_spec.specs.Projects.{project_path, IsConfigOf}
 use Rattle.config_spec.specs.Words.{IsCommandOf}
 use Rattle.command_words.specs.declared.fault.WordsFault.{WordsFault}
 use Rattle.command_words.specs.declared.fault.WordsFault.TheVariants as words_fault
 use Rattle.command_words.specs.declared.order.Order.{Order}
+use Rattle.command_words.specs.declared.order.Order.TheVariants as orders
 use Rattle.command_words.specs.Orders.{IsOrder, command_ordered, settings_ordered}
 use Rattle.generator_spec.specs.declared.Refusal.TheVariants as refusal
 use Rattle.generator_spec.specs.Commands.{NewFile}
@@ -29,6 +31,15 @@ use Rattle.generator_core.proofs.Endings.{status_done, refusal_not_done, some_sa
 
 pub command_is : (words : List (List ℕ)) (order : Order) → IsOrder words order → IsCommandOf words (command_ordered order)
 command_is words order is = record { asked = is.asked; asks = is.asks; is = is.is_order.is; settings = settings_ordered order; sets = is.is_order.sets }
+
+-- no order asks why a file is loaded
+pub not_why : (order : Order) → command_ordered order ≢ Why
+not_why (orders.Link settings entries) e = absurd (cc)
+not_why (orders.Unlink entries) e = absurd (cc)
+not_why orders.Refresh e = absurd (cc)
+not_why orders.Check e = absurd (cc)
+not_why orders.List e = absurd (cc)
+not_why orders.Inject e = absurd (cc)
 
 text_not_done : (out out_after : SinkState) (result : ℕ) → TellsNoMeaning out out_after result → result ≢ 0
 text_not_done out out_after result (tells_text.text text told) zero = let e = status_done 2 text out out_after result told zero in absurd (omega (arith, e))

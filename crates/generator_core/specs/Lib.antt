@@ -5,5 +5,6 @@ pub mod Listing
 pub mod Configuring
 pub mod Spending
 pub mod Running
+pub mod Explaining
 pub mod Measuring
 pub mod RunEnds

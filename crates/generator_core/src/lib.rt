@@ -4,6 +4,7 @@
 #![tactic(auto)]
 
 mod checking;
+mod explaining;
 mod listing;
 mod measuring;
 mod paths;

@@ -1,21 +1,23 @@
-ghost use Rattle.std.specs.Prelude.{◌≡◌, ◌≤◌, List, ℕ, map, string_bytes, IfSome};
+ghost use Rattle.std.specs.Prelude.{◌≡◌, ◌≢◌, ◌≤◌, List, ℕ, map, string_bytes, IfSome};
 ghost use Rattle.words_spec.specs.PlainWords.{most_packages};
 ghost use Rattle.config_spec.specs.declared.Command.{Command as Commanded};
-ghost use Rattle.config_spec.specs.declared.Command.TheVariants.{Inject, Check, List as ListModules};
+ghost use Rattle.config_spec.specs.declared.Command.TheVariants.{Inject, Check, Why, List as ListModules};
 ghost use Rattle.config_spec.specs.Words.{IsSession};
 ghost use Rattle.generator_spec.specs.Commands.{IsGenerating};
 ghost use Rattle.generator_spec.specs.Ending.{Ends, EndsAs, TellsRefusal};
 ghost use Rattle.generator_spec.specs.Asked.{AsksInOrder};
 ghost use Rattle.session_spec.specs.SessionRuns.{SessionEnds};
-ghost use Rattle.command_words.specs.Orders.{IsOrder, command_ordered};
+ghost use Rattle.command_words.specs.Orders.{AsksWhyAt, IsOrder, command_ordered};
 ghost use Rattle.generator_core.specs.Preparing.{KeepsProject, shown_file};
 ghost use Rattle.generator_core.specs.Measuring.{RunsMeasure, TellsMeasure};
 ghost use Rattle.generator_core.specs.RunEnds.{IsIdle, RunEnds};
+ghost use Rattle.generator_core.specs.Explaining.{RunsWhy};
 ghost use Rattle.generator_core.specs.Running.{RunsCommand};
 ghost use Rattle.generator_core.specs.Spending.{CommandSpends};
 ghost use Rattle.generator_core.specs.Writing.{TellsStop, TellsWords, EndsWriting, WritesFiles};
 
 use crate::checking::checked;
+use crate::explaining::explained;
 use crate::listing::listed;
 use crate::measuring::measured;
 use crate::prepared::{Fresh, Prepared, prepare_map, prepare_page};
@@ -32,7 +34,7 @@ use run_texts::{
 use session_run::session;
 use std::alloc::Global;
 use std::sync::ledger::Ledger;
-use tree_model::{Folder, Sink, Source};
+use tree_model::{Folder, Path, Sink, Source};
 
 /// Does all that the program does: reads the words and the project, generates from the folder, writes the map and the
 /// project or the page, or checks the map that is there, and says how it ended; or holds a session, whose lines come
@@ -52,6 +54,7 @@ pub fn run<F: Folder, I: Source, O: Sink, L: Ledger>(
 {
     match order_of(alloc, words) {
         Ok(Wanted::Order(order)) => ordered(alloc, folder, order, out, steps),
+        Ok(Wanted::Why { path }) => explain(alloc, folder, &path, out, steps),
         Ok(Wanted::Measure { number }) => measure(alloc, number, out, steps),
         Ok(Wanted::Session) => hold(alloc, folder, input, out, steps),
         Err(fault) => misworded(alloc, fault, out),
@@ -88,6 +91,26 @@ fn hold<F: Folder, I: Source, O: Sink, L: Ledger>(
     }
 }
 
+// `why`: looks for the project, and tells how the page comes to load the file at this path.
+fn explain<F: Folder, O: Sink, L: Ledger>(
+    alloc: Global,
+    folder: &mut F,
+    path: &Path,
+    out: &mut O,
+    steps: &mut Steps<L>,
+) -> u8
+    ensures end { (words : List (List ℕ)) → AsksWhyAt words path.now
+        → EndsAs words (F.state folder.old) (F.state folder.new) (O.state out.old) (O.state out.new) result }
+    ensures asked { IfSome (F.state folder.old).asked (λ old. (words : List (List ℕ)) → AsksWhyAt words path.now
+        → AsksInOrder words (F.state folder.old) old (F.state folder.new)) }
+    ensures steps { CommandSpends (IsGenerating Why) (O.state out.old) (O.state out.new) result steps.old steps.new }
+{
+    match configured(alloc, folder, Order::Refresh) {
+        Ok(config) => tell_why(alloc, folder, &config, path, out, steps),
+        Err(stop) => close(alloc, stop, out),
+    }
+}
+
 // Looks for the project, and does what is asked for with it.
 fn ordered<F: Folder, O: Sink, L: Ledger>(
     alloc: Global,
@@ -110,7 +133,7 @@ fn ordered<F: Folder, O: Sink, L: Ledger>(
     }
 }
 
-// Does what the command does.
+// Does what the command does, of those that need no more than the config.
 fn commanded<F: Folder, O: Sink, L: Ledger>(
     alloc: Global,
     folder: &mut F,
@@ -119,6 +142,7 @@ fn commanded<F: Folder, O: Sink, L: Ledger>(
     out: &mut O,
     steps: &mut Steps<L>,
 ) -> u8
+    requires { command ≢ Why }
     ensures { RunsCommand command config.now (F.state folder.old) (F.state folder.new) (O.state out.old)
         (O.state out.new) result steps.old steps.new }
 {
@@ -129,6 +153,7 @@ fn commanded<F: Folder, O: Sink, L: Ledger>(
         Command::Inject => inject(alloc, folder, config, out, steps),
         Command::Check => check(alloc, folder, config, out, steps),
         Command::List => list(alloc, folder, config, out, steps),
+        Command::Why => unreachable!(),
     }
 }
 
@@ -197,6 +222,24 @@ fn list<F: Folder, O: Sink, L: Ledger>(
         (O.state out.new) result steps.old steps.new }
 {
     match listed(alloc, folder, config, steps) {
+        Ok(report) => tell(out, report.text.as_slice(), report.status),
+        Err(stop) => close(alloc, stop, out),
+    }
+}
+
+// `why`: traces, and says by which requests the page comes to load the file, or that it doesn't.
+fn tell_why<F: Folder, O: Sink, L: Ledger>(
+    alloc: Global,
+    folder: &mut F,
+    config: &Config,
+    path: &Path,
+    out: &mut O,
+    steps: &mut Steps<L>,
+) -> u8
+    ensures { RunsWhy path.now config.now (F.state folder.old) (F.state folder.new) (O.state out.old)
+        (O.state out.new) result steps.old steps.new }
+{
+    match explained(alloc, folder, config, path, steps) {
         Ok(report) => tell(out, report.text.as_slice(), report.status),
         Err(stop) => close(alloc, stop, out),
     }

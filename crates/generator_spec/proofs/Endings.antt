@@ -18,12 +18,12 @@ use Rattle.config_spec.proofs.WordsJudged.{words_are_judged}
 use Rattle.config_spec.specs.declared.ConfigFault.{ConfigFault}
 use Rattle.config_spec.specs.Words.{IsPlain, options_of, RefusesOptions, RefusesWords}
 use Rattle.config_spec.specs.Words.RefusesOptions.{bad_base, bad_path, bad_conditions}
-use Rattle.config_spec.specs.Words.RefusesWords.{bad_option}
+use Rattle.config_spec.specs.Words.RefusesWords.{bad_option, bad_file}
 use Rattle.config_spec.specs.Projects.{RefusesAsked, measure_config}
 use Rattle.config_spec.specs.Projects.IsReadFault.{too_large, not_project, above}
 use Rattle.config_spec.specs.Projects.RefusesAsked.{bad_project, no_project, no_base, too_many_entries, not_linked}
 use Rattle.config_spec.specs.declared.Command.{Command}
-use Rattle.config_spec.specs.declared.Command.TheVariants.{Check, Refresh, List as Lists}
+use Rattle.config_spec.specs.declared.Command.TheVariants.{Check, Refresh, Why, List as Lists}
 use Rattle.generator_spec.specs.declared.MapFileFault.{MapFileFault}
 use Rattle.generator_spec.specs.declared.MapFileFault.TheVariants as map_file
 use Rattle.generator_spec.specs.declared.PageFault.{PageFault}
@@ -35,18 +35,20 @@ use Rattle.generator_spec.specs.Statuses.{LeavesTree}
 use Rattle.generator_spec.specs.Outcome.{ComesTo, ComesTo as comes, FilesPlaced, Outcome}
 use Rattle.generator_spec.specs.Ending.{CanRefuse, CanRefuse as can, IsDone, StopsWriting, Shaped, Says, Ends}
 use Rattle.generator_spec.specs.Ending.{Shaped as shaped, Says as says, Ends as ends}
+use Rattle.generator_spec.specs.Ending.{TellsChain, TellsChain as chain}
 use Rattle.generator_spec.specs.Promises.{AreWrong, HasStopped, Untouched, Shows}
 use Rattle.generator_spec.proofs.Configs.{command_for, command_is_plain, measured_is_plain, refused_is_plain, refused_or_command}
 
 -- ---- statuses
 
--- own: the statuses of a refusal, and of differences
+-- own: the statuses of a refusal, of differences, and of a file that isn't reached
 data IsRefusing (status : ℕ) : Type 0 where
   one : status ≡ 1 → IsRefusing status
   two : status ≡ 2 → IsRefusing status
   three : status ≡ 3 → IsRefusing status
   six : status ≡ 6 → IsRefusing status
   seven : status ≡ 7 → IsRefusing status
+  ten : status ≡ 10 → IsRefusing status
 
 options_refusing : (options : LinkOptions) (fault : ConfigFault) → RefusesOptions options fault → IsRefusing (config_status fault)
 options_refusing options fault (bad_base text given none) = two refl
@@ -55,6 +57,7 @@ options_refusing options fault (bad_conditions base page text sets sets_page giv
 
 words_refusing : (words : List (List ℕ)) (fault : ConfigFault) → RefusesWords words fault → IsRefusing (config_status fault)
 words_refusing words fault (bad_option asked command why asks is refuses) = options_refusing (options_of asked) fault refuses
+words_refusing words fault (bad_file path asks none) = two refl
 
 asked_refusing : (asked : Asked) (fault : ConfigFault) → RefusesAsked asked fault → IsRefusing (config_status fault)
 asked_refusing asked fault (bad_project _ _ too_large) = three refl
@@ -106,6 +109,13 @@ check_refusing : (differing : List (List ℕ)) → (check_status differing ≡ 0
 check_refusing [] = inl refl
 check_refusing (line ∷ more) = inr (six refl)
 
+chain_status :
+    (config : Config) (path : List ℕ) (status : ℕ) (lines : List (List ℕ)) → TellsChain config path status lines
+    → (status ≡ 0) ⊎ (status ≡ 10)
+chain_status config path status lines (chain.own_page same s l) = inl s
+chain_status config path status lines (chain.reached requests other begins stops s l) = inl s
+chain_status config path status lines (chain.not_reached other s l) = inr s
+
 shaped_status :
     (words : List (List ℕ)) (status : ℕ) (lines : List (List ℕ)) → Shaped words status lines
     → (status ≡ 0) ⊎ IsRefusing status
@@ -115,6 +125,8 @@ shaped_status words status lines (shaped.done line s l counted) = inl s
 shaped_status words status lines (shaped.checked is) =
     subst (λ n. (n ≡ 0) ⊎ IsRefusing n) (sym is.ends) (check_refusing is.differing)
 shaped_status words status lines (shaped.listed is) = inl is.ends
+shaped_status words status lines (shaped.explained is) =
+    ⊎_elim inl (λ e. inr (ten e)) (chain_status is.config is.path status lines is.tells)
 shaped_status words status lines (shaped.measured is) = inl is.ends
 
 refusal_status : (status : ℕ) → IsRefusing status → LeavesTree status
@@ -123,6 +135,7 @@ refusal_status status (two e) = inr (inl e)
 refusal_status status (three e) = inr (inr (inl e))
 refusal_status status (six e) = inr (inr (inr (inr (inl e))))
 refusal_status status (seven e) = inr (inr (inr (inr (inr (inl e)))))
+refusal_status status (ten e) = inr (inr (inr (inr (inr (inr (inr e))))))
 
 no_refusing : (status : ℕ) → IsRefusing status → (status ≢ 0) × (status ≢ 4) × (status ≢ 5)
 no_refusing status (one e) = (λ f. omega arith, λ f. omega arith, λ f. omega arith)
@@ -130,6 +143,7 @@ no_refusing status (two e) = (λ f. omega arith, λ f. omega arith, λ f. omega 
 no_refusing status (three e) = (λ f. omega arith, λ f. omega arith, λ f. omega arith)
 no_refusing status (six e) = (λ f. omega arith, λ f. omega arith, λ f. omega arith)
 no_refusing status (seven e) = (λ f. omega arith, λ f. omega arith, λ f. omega arith)
+no_refusing status (ten e) = (λ f. omega arith, λ f. omega arith, λ f. omega arith)
 
 check_not_two : (differing : List (List ℕ)) → check_status differing ≢ 2
 check_not_two [] e = omega (arith, e)
@@ -162,6 +176,7 @@ unmoved words tree status lines files later (comes.refused why is s l f) placed 
 unmoved words tree status lines files later (comes.written command config map is generates wrote s l) placed other = absurd (other s)
 unmoved words tree status lines files later (comes.checked config map all is holds traces s l f) placed other = nothing_placed files tree later f placed
 unmoved words tree status lines files later (comes.listed config all is traces s l f) placed other = nothing_placed files tree later f placed
+unmoved words tree status lines files later (comes.explained path config all asks is traces tells f) placed other = nothing_placed files tree later f placed
 unmoved words tree status lines files later (comes.measured number map asks generates s l f) placed other = nothing_placed files tree later f placed
 
 kept_where_refused :
@@ -187,7 +202,7 @@ one_line_text line = append-nil line
 module _ (words : List (List ℕ)) (before after : FolderState) (status : ℕ) (lines : List (List ℕ)) where
   said_status : Says words before after status lines → IsStatus status
   said_status (says.outcome shape o l w) = shaped_is_status status (shaped_status words status lines shape)
-  said_status (says.memory s t k l w) = inr (inr (inr (inr (inr (inr (inr (inr s)))))))
+  said_status (says.memory s t k l w) = inr (inr (inr (inr (inr (inr (inr (inr (inl s))))))))
   said_status (says.read_fault command is_command s t k rose w) = inr (inr (inr (inr (inr (inl s)))))
   said_status (says.write_fault line counted stops s t l rose) = inr (inl s)
 
@@ -228,6 +243,8 @@ module _ (words : List (List ℕ)) (before after : FolderState) (status : ℕ) (
   shaped_two (shaped.done line s l counted) is_two = absurd (omega arith)
   shaped_two (shaped.checked is) is_two = absurd (check_not_two is.differing (sym is.ends ∙ is_two))
   shaped_two (shaped.listed is) is_two = let zero = is.ends in absurd (omega (arith, zero, is_two))
+  shaped_two (shaped.explained is) is_two =
+      absurd (⊎_elim (λ e. omega (arith, e, is_two)) (λ e. omega (arith, e, is_two)) (chain_status is.config is.path status lines is.tells))
   shaped_two (shaped.measured is) is_two = let zero = is.ends in absurd (omega (arith, zero, is_two))
 
   said_two : Says words before after status lines → status ≡ 2 → AreWrong words
@@ -268,6 +285,8 @@ module _ (words : List (List ℕ)) (before after : FolderState) (status : ℕ) (
       absurd (refused_or_command words fault Check refuses (command_for words Check is.config is.is_config))
   refused_shape fault refuses (shaped.listed is) =
       absurd (refused_or_command words fault Lists refuses (command_for words Lists is.config is.is_config))
+  refused_shape fault refuses (shaped.explained is) =
+      absurd (refused_or_command words fault Why refuses (command_for words Why is.config is.is_config))
   refused_shape fault refuses (shaped.measured is) = absurd ((words_are_judged words).no_fault is.number fault is.measures refuses)
 
   refused_says :
@@ -301,6 +320,7 @@ module _ (words : List (List ℕ)) (before after : FolderState) (status : ℕ) (
   no_meaning_shape none (shaped.done line s l counted) = absurd (none (command_is_plain words counted.command (command_for words counted.command counted.config counted.is_config)))
   no_meaning_shape none (shaped.checked is) = absurd (none (command_is_plain words Check (command_for words Check is.config is.is_config)))
   no_meaning_shape none (shaped.listed is) = absurd (none (command_is_plain words Lists (command_for words Lists is.config is.is_config)))
+  no_meaning_shape none (shaped.explained is) = absurd (none (command_is_plain words Why (command_for words Why is.config is.is_config)))
   no_meaning_shape none (shaped.measured is) = absurd (none (measured_is_plain words is.number is.measures))
 
   no_meaning_says :

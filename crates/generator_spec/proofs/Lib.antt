@@ -1,6 +1,8 @@
 pub mod Configs
 pub mod Choices
 pub mod Generations
+pub mod Explanations
+pub mod RequestNumbers
 pub mod Nameless
 pub mod MapPaths
 pub mod Refusals

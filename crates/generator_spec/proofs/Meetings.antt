@@ -5,7 +5,7 @@ use Rattle.std.specs.List.{concat}
 use Rattle.tree_spec.specs.States.{FolderState, SinkState}
 use Rattle.tree_spec.specs.Trees.{Tree}
 use Rattle.generator_spec.specs.Lines.{memory_line}
-use Rattle.config_spec.specs.declared.Command.TheVariants.{Check}
+use Rattle.config_spec.specs.declared.Command.TheVariants.{Check, Why}
 use Rattle.generator_spec.specs.Outcome.{ComesTo, ComesTo as comes, Outcome}
 use Rattle.generator_spec.specs.Commands.{IsGenerating, NewFile}
 use Rattle.generator_spec.specs.Ending.{StopsWriting, Says, Ends, Says as says, Ends as ends}
@@ -41,6 +41,10 @@ no_map words tree line told expected texts files stops (comes.checked config map
     (one_config words tree stops.generated.command Check stops.generated.config config stops.generated.is_config is).one_command
     (writes_generate tree stops.generated.config stops.map stops.generated.command stops.files stops.writes)
 no_map words tree line told expected texts files stops (comes.listed config all is traces s l f) other = other s
+no_map words tree line told expected texts files stops (comes.explained path config all asks is traces tells f) other =
+    subst IsGenerating
+    (one_config words tree stops.generated.command Why stops.generated.config config stops.generated.is_config is).one_command
+    (writes_generate tree stops.generated.config stops.map stops.generated.command stops.files stops.writes)
 no_map words tree line told expected texts files stops (comes.measured number map asks generates s l f) other = other s
 
 module _ (words : List (List ℕ)) (tree : Tree) (before after : FolderState) (out out_after : SinkState)

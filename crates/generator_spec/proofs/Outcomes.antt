@@ -16,35 +16,38 @@ use Rattle.trace_spec.specs.declared.TraceFault.{TraceFault}
 use Rattle.trace_spec.specs.Modules.{Config}
 use Rattle.trace_spec.specs.Checks.{Gathered}
 use Rattle.trace_spec.specs.Traces.{traced}
-use Rattle.config_spec.proofs.WordsJudged.{words_are_judged}
+use Rattle.words_spec.specs.PlainWords.{Asks}
+use Rattle.config_spec.proofs.WordsJudged.{why_explains, words_are_judged}
 use Rattle.config_spec.specs.declared.Command.{Command}
-use Rattle.config_spec.specs.declared.Command.TheVariants.{Link, Unlink, Refresh, Check}
+use Rattle.config_spec.specs.declared.Command.TheVariants.{Link, Unlink, Refresh, Check, Why}
 use Rattle.config_spec.specs.declared.Command.TheVariants.{List as Lists}
 use Rattle.generator_spec.specs.declared.Refusal.{Refusal}
 use Rattle.generator_spec.specs.declared.Refusal.TheVariants.{Trace, Limit, Config as Configured}
 use Rattle.generator_spec.specs.Checking.{difference_lines, check_status, check_lines}
 use Rattle.generator_spec.specs.Listing.{list_lines}
+use Rattle.generator_spec.specs.Explaining.{SaysWhy}
 use Rattle.generator_spec.specs.Commands.{IsGenerating, map_path, HoldsMap, Opens, IsMapping as mapping, Opens as opens, Refuses, Refuses as refuses}
 use Rattle.generator_spec.specs.Commands.{NewFile, new_file, map_and_project, Writes, Writes as writes}
 use Rattle.generator_spec.specs.Generation.{Generates, IsTooWide, IsTooLarge}
 use Rattle.project_spec.specs.ProjectFiles.{project_text}
-use Rattle.config_spec.specs.Words.{IsPlain, IsSession, Measures, RefusesWords}
+use Rattle.config_spec.specs.Words.{AsksWhy, IsPlain, IsSession, Measures, RefusesWords}
 use Rattle.config_spec.specs.declared.ConfigFault.{ConfigFault}
 use Rattle.workload_spec.specs.Packages.{tree_of}
 use Rattle.config_spec.specs.Projects.{IsConfigOf, RefusesConfig, measure_config, project_path}
 use Rattle.generator_spec.specs.Lines.{status_of, line_of, done_line, measured_line}
 use Rattle.generator_spec.specs.Measuring.{RefusesMeasure}
 use Rattle.generator_spec.specs.Outcome.{ComesTo, FilesPlaced, Outcome, RefusesRun, RefusesRun as runs}
-use Rattle.generator_spec.specs.Outcome.ComesTo.{not_plain, refused, written, checked, listed, measured}
+use Rattle.generator_spec.specs.Outcome.ComesTo.{not_plain, refused, written, checked, listed, explained, measured}
 use Rattle.generator_spec.specs.Laws.{OneOutcome, HasOutcome, SomeOutcome}
 use Rattle.generator_spec.proofs.Configs.{SameConfig, one_config, one_config_fault, refused_or_config}
 use Rattle.generator_spec.proofs.Configs.{words_refused_or_config, words_refused_or_refused, page_is_path, plain_or_not}
 use Rattle.generator_spec.proofs.Configs.{command_is, command_is_plain, refused_is_plain, measured_is_plain}
 use Rattle.generator_spec.proofs.Configs.{Judged, Judged as judgement, judged}
+use Rattle.generator_spec.proofs.Explanations.{Explanation, one_path_asked, one_explanation, some_explanation}
 use Rattle.generator_spec.proofs.Generations.{one_trace, one_layout, one_text, some_generation}
 use Rattle.generator_spec.proofs.MapPaths.{map_is_path, project_is_path, map_in_root, project_in_root}
 use Rattle.generator_spec.proofs.Nameless.{traced_is_named}
-use Rattle.generator_spec.proofs.Refusals.{one_refusal, refused_or_opened_and_generated, refused_or_checked, refused_or_listed, written_is_opened}
+use Rattle.generator_spec.proofs.Refusals.{one_refusal, refused_or_opened_and_generated, refused_or_checked, refused_or_listed, refused_or_explained, written_is_opened}
 use Rattle.generator_spec.proofs.Refusals.{Refused, opened_or_refused, one_held, one_write}
 
 -- ---- one at most
@@ -115,6 +118,7 @@ paths_of words tree status lines files (refused why is s l f) = no_paths files f
 paths_of words tree status lines files (written command config map is generates wrote s l) = paths_written words tree command config map files is wrote
 paths_of words tree status lines files (checked config map all is holds traces s l f) = no_paths files f
 paths_of words tree status lines files (listed config all is traces s l f) = no_paths files f
+paths_of words tree status lines files (explained path config all asks is traces tells f) = no_paths files f
 paths_of words tree status lines files (measured number map is generates s l f) = no_paths files f
 
 -- ---- what it comes to
@@ -193,6 +197,20 @@ module _ (words : List (List ℕ)) (tree : Tree) (status other : ℕ) (lines oth
         same_files = f ∙ sym g;
       }
 
+  both_explained :
+      (path path_too : List ℕ) (config second : Config) → AsksWhy words path → IsConfigOf words tree Why config
+      → SaysWhy (get tree) config path status lines → files ≡ [] → AsksWhy words path_too
+      → IsConfigOf words tree Why second → SaysWhy (get tree) second path_too other others → more ≡ []
+      → SameEnd status other lines others files more
+  both_explained path path_too config second asks is tells f asks_too is_too tells_too g =
+      let configs = (one_config words tree Why Why config second is is_too).one_config in
+      let paths = one_path_asked words path path_too asks asks_too in
+      let same =
+      one_explanation (get tree) config path status other lines others tells
+      (subst (λ c. SaysWhy (get tree) c path other others) (sym configs)
+      (subst (λ p. SaysWhy (get tree) second p other others) (sym paths) tells_too)) in
+      record { one_status = same.0; same_lines = same.1; same_files = f ∙ sym g }
+
   both_measured :
       (number second : ℕ) (map map_too : List ℕ) → number ≡ second → (generates : Generates (tree_of number) measure_config map)
       → status ≡ 0 → lines ≡ measured_line number generates.all generates.layout ∷ [] → files ≡ []
@@ -223,6 +241,26 @@ module _ (words : List (List ℕ)) (tree : Tree) (status other : ℕ) (lines oth
   written_and_listed command config second map new is wrote is_too =
       subst IsGenerating (one_config words tree command Lists config second is is_too).one_command
       (writes_generate tree config map command new wrote)
+
+  -- what is explained is neither written nor checked nor listed
+  written_and_explained :
+      (command : Command) (config second : Config) (map : List ℕ) (new : List NewFile) → IsConfigOf words tree command config
+      → Writes tree config map command new → IsConfigOf words tree Why second → ⊥
+  written_and_explained command config second map new is wrote is_too =
+      subst IsGenerating (one_config words tree command Why config second is is_too).one_command
+      (writes_generate tree config map command new wrote)
+
+  checked_and_explained :
+      (config second : Config) → IsConfigOf words tree Check config → IsConfigOf words tree Why second → ⊥
+  checked_and_explained config second is is_too =
+      let same : Check ≡ Why = (one_config words tree Check Why config second is is_too).one_command in
+      absurd (cc)
+
+  listed_and_explained :
+      (config second : Config) → IsConfigOf words tree Lists config → IsConfigOf words tree Why second → ⊥
+  listed_and_explained config second is is_too =
+      let same : Lists ≡ Why = (one_config words tree Lists Why config second is is_too).one_command in
+      absurd (cc)
 
   -- what is checked isn't written
   written_and_checked :
@@ -309,6 +347,16 @@ refused_or_listed_too words tree why config all (runs.by_tree other second reaso
     refused_or_listed tree config why all (same_refusals tree why same is) traces
 refused_or_listed_too words tree why config all (runs.by_measure number reason asks is) is_config traces = measured_or_config words tree number Lists config asks is_config
 
+refused_or_explained_too :
+    (words : List (List ℕ)) (tree : Tree) (why : Refusal) (config : Config) (all : Gathered)
+    → RefusesRun words tree why → IsConfigOf words tree Why config → traced (get tree) config ≡ Ok all → ⊥
+refused_or_explained_too words tree why config all (runs.by_words fault is) is_config traces = words_refused_or_config words tree fault Why config is is_config
+refused_or_explained_too words tree why config all (runs.by_project fault is) is_config traces = refused_or_config words tree fault Why config is is_config
+refused_or_explained_too words tree why config all (runs.by_tree other second reason is_too is) is_config traces =
+    let same = one_config words tree Why other config second is_config is_too in
+    refused_or_explained tree config why all (same_refusals tree why same is) traces
+refused_or_explained_too words tree why config all (runs.by_measure number reason asks is) is_config traces = measured_or_config words tree number Why config asks is_config
+
 refused_or_measured :
     (words : List (List ℕ)) (tree : Tree) (why : Refusal) (number : ℕ) (map : List ℕ) → RefusesRun words tree why
     → Measures words number → Generates (tree_of number) measure_config map → ⊥
@@ -376,6 +424,28 @@ module _ (words : List (List ℕ)) (tree : Tree) (status other : ℕ) (lines oth
       absurd (checked_and_listed words tree status other lines others files more second config is_too is)
   both (listed config all is traces s l f) (listed second all_too is_too traces_too t m g) =
       both_listed words tree status other lines others files more config second all all_too is traces s l f is_too traces_too t m g
+  both (refused why is s l f) (explained path config all asks is_config traces tells g) =
+      absurd (refused_or_explained_too words tree why config all is is_config traces)
+  both (written command config map is generates wrote s l) (explained path second all asks is_too traces tells g) =
+      absurd (written_and_explained words tree status other lines others files more command config second map files is wrote is_too)
+  both (checked config map all is holds traces s l f) (explained path second all_too asks is_too traces_too tells g) =
+      absurd (checked_and_explained words tree status other lines others files more config second is is_too)
+  both (listed config all is traces s l f) (explained path second all_too asks is_too traces_too tells g) =
+      absurd (listed_and_explained words tree status other lines others files more config second is is_too)
+  both (measured number map asks generates s l f) (explained path config all asks_why is_config traces tells g) =
+      absurd (measured_or_config words tree number Why config asks is_config)
+  both (explained path config all asks is traces tells f) (refused because too t m g) =
+      absurd (refused_or_explained_too words tree because config all too is traces)
+  both (explained path config all asks is traces tells f) (written command second map is_too generates wrote t m) =
+      absurd (written_and_explained words tree status other lines others files more command second config map more is_too wrote is)
+  both (explained path config all asks is traces tells f) (checked second map all_too is_too holds traces_too t m g) =
+      absurd (checked_and_explained words tree status other lines others files more second config is_too is)
+  both (explained path config all asks is traces tells f) (listed second all_too is_too traces_too t m g) =
+      absurd (listed_and_explained words tree status other lines others files more second config is_too is)
+  both (explained path config all asks is traces tells f) (measured number map asks_too generates t m g) =
+      absurd (measured_or_config words tree number Why config asks_too is)
+  both (explained path config all asks is traces tells f) (explained path_too second all_too asks_too is_too traces_too tells_too g) =
+      both_explained words tree status other lines others files more path path_too config second asks is tells f asks_too is_too tells_too g
 
 pub one_outcome : OneOutcome
 one_outcome words tree status other lines others after last plain one two =
@@ -394,6 +464,7 @@ no_meaning_status words tree status lines files none (not_plain text too s l f) 
 no_meaning_status words tree status lines files none (refused why is s l f) = absurd (none (run_is_plain words tree why is))
 no_meaning_status words tree status lines files none (written command config map is generates wrote s l) = absurd (none (config_is_plain words tree command config is))
 no_meaning_status words tree status lines files none (checked config map all is holds traces s l f) = absurd (none (config_is_plain words tree Check config is))
+no_meaning_status words tree status lines files none (explained path config all asks is traces tells f) = absurd (none (config_is_plain words tree Why config is))
 no_meaning_status words tree status lines files none (measured number map asks generates s l f) = absurd (none (measured_is_plain words number asks))
 no_meaning_status words tree status lines files none (listed config all is traces s l f) = absurd (none (config_is_plain words tree Lists config is))
 
@@ -499,6 +570,22 @@ module _ (words : List (List ℕ)) (tree : Tree) (is_tree : IsTree tree) where
     outcome = record { files = []; comes = listed config all is e refl refl refl; placed = refl };
   }
 
+  by_chain :
+      (config : Config) → IsConfigOf words tree Why config → (all : Gathered) → traced (get tree) config ≡ Ok all
+      → (path : List ℕ) → AsksWhy words path → Explanation (get tree) config path → HasOutcome words tree
+  by_chain config is all e path asks found = record {
+    status = found.status;
+    lines = found.lines;
+    after = tree;
+    outcome = record { files = []; comes = explained path config all asks is e found.tells refl; placed = refl };
+  }
+
+  by_explanation : (config : Config) → IsConfigOf words tree Why config → (all : Gathered) → traced (get tree) config ≡ Ok all → HasOutcome words tree
+  by_explanation config is all e =
+      let file = why_explains is.asked is.is in
+      by_chain config is all e file.path (subst (Asks words) file.is is.asks)
+      (some_explanation (get tree) config file.path all e)
+
   by_trace : (command : Command) (config : Config) → IsConfigOf words tree command config → (opened : Opens tree config command) → (all : Gathered) → traced (get tree) config ≡ Ok all → HasOutcome words tree
   by_trace command config is (opens.nothing _ mapping.link) all e =
       by_generation command config is tt (opens.nothing Link mapping.link)
@@ -519,6 +606,7 @@ module _ (words : List (List ℕ)) (tree : Tree) (is_tree : IsTree tree) where
       }) all e
   by_trace command config is (opens.has_map map holds) all e = by_check config is map holds all e
   by_trace command config is opens.no_file all e = by_list config is all e
+  by_trace command config is opens.no_other_file all e = by_explanation config is all e
   by_trace command config is (opens.no_base text stands nameless) all e = absurd (traced_is_named (get tree) config all nameless e)
 
   by_result : (command : Command) (config : Config) → IsConfigOf words tree command config → Opens tree config command → (found : Result Gathered TraceFault) → traced (get tree) config ≡ found → HasOutcome words tree

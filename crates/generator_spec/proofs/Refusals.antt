@@ -24,7 +24,7 @@ use Rattle.trace_spec.specs.Walking.{the_page}
 use Rattle.trace_spec.specs.Checks.{Gathered}
 use Rattle.trace_spec.specs.Traces.{traced}
 use Rattle.config_spec.specs.declared.Command.{Command}
-use Rattle.config_spec.specs.declared.Command.TheVariants.{Link, Unlink, Refresh, Inject, Check}
+use Rattle.config_spec.specs.declared.Command.TheVariants.{Link, Unlink, Refresh, Inject, Check, Why}
 use Rattle.config_spec.specs.declared.Command.TheVariants.{List as Lists}
 use Rattle.generator_spec.specs.declared.MapFileFault.{MapFileFault}
 use Rattle.generator_spec.specs.declared.MapFileFault.TheVariants as map_file
@@ -244,6 +244,13 @@ module _ (tree : Tree) (config : Config) where
   refused_or_listed why all (refuses.many_choices same generating before wide) traces = generating
   refused_or_listed why all (refuses.large_map same generating before large) traces = generating
 
+  pub refused_or_explained : (why : Refusal) (all : Gathered) → Refuses tree config Why why → traced (get tree) config ≡ Ok all → ⊥
+  refused_or_explained why all (refuses.trace same fault before e) traces =
+      let both : Ok all ≡ Err fault = sym traces ∙ e in
+      absurd (cc)
+  refused_or_explained why all (refuses.many_choices same generating before wide) traces = generating
+  refused_or_explained why all (refuses.large_map same generating before large) traces = generating
+
   -- a command that writes was opened
   pub written_is_opened : (map : List ℕ) (files : List NewFile) (command : Command) → Writes tree config map command files → Opens tree config command
   written_is_opened map files command writes.linked = opens.nothing Link mapping.link
@@ -305,6 +312,7 @@ module _ (tree : Tree) (config : Config) where
   opened_or_refused Inject = by_entry found refl
   opened_or_refused Check = by_map_entry map_found refl
   opened_or_refused Lists = inl opens.no_file
+  opened_or_refused Why = inl opens.no_other_file
 
 -- ---- what is written
 

@@ -10,6 +10,7 @@ use Rattle.page_spec.specs.declared.kinds.InjectFault.TheVariants.{PageUnclear, 
 use Rattle.page_spec.specs.declared.kinds.InjectFault.TheVariants as page
 use Rattle.trace_spec.specs.declared.TraceFault.{TraceFault}
 use Rattle.trace_spec.specs.declared.TraceFault.TheVariants as fault
+use Rattle.trace_spec.specs.Modules.{Config}
 use Rattle.config_spec.specs.declared.ConfigFault.{ConfigFault}
 use Rattle.config_spec.specs.declared.ConfigFault.TheVariants as config
 use Rattle.config_spec.specs.declared.ProjectFault.{ProjectFault}
@@ -22,8 +23,9 @@ use Rattle.generator_spec.specs.declared.PageFault.TheVariants.{Absent, TooLarge
 use Rattle.generator_spec.specs.declared.Refusal.{Refusal}
 use Rattle.generator_spec.specs.declared.Refusal.TheVariants as refusal
 use Rattle.generator_spec.specs.Lines.{project_line, config_line, page_line, map_file_line, trace_line, line_of, counts_line, served_line, differences_line}
-use Rattle.generator_spec.specs.Lines.{memory_line, read_fault_line, write_fault_line}
+use Rattle.generator_spec.specs.Lines.{memory_line, read_fault_line, write_fault_line, not_reached_line}
 use Rattle.generator_spec.specs.Ending.{IsDone, IsDifference, IsChecked, Gives, Shaped, Says, Ends, Shaped as shaped, Says as says, Ends as ends}
+use Rattle.generator_spec.specs.Ending.{TellsChain, TellsChain as chain}
 use Rattle.generator_spec.specs.Checking.{check_status, check_lines}
 use Rattle.generator_spec.specs.Promises.{Tells}
 use Rattle.generator_spec.proofs.Endings.{one_line_text}
@@ -167,12 +169,20 @@ module _ (words : List (List ℕ)) (before after : FolderState) (status : ℕ) (
       ⊎_elim (λ zero. inr (done (is.ends ∙ zero))) (λ another. inl (subst (λ all. IsAnother (concat all)) (sym is.says) another))
       (checked_text is.differing is.needs is.are_differences)
 
+  explained_line :
+      (own : Config) (path : List ℕ) → TellsChain own path status lines → IsAnother (concat lines) ⊎ WasDone
+  explained_line own path (chain.own_page same s l) = inr (done s)
+  explained_line own path (chain.reached requests other begins stops s l) = inr (done s)
+  explained_line own path (chain.not_reached other s l) =
+      inl (other_text (not_reached_line path) lines l (other_line 110 (not_reached_line path) refl (λ e. omega arith)))
+
   shaped_line : IsPlain words → Shaped words status lines → IsAnother (concat lines) ⊎ WasDone
   shaped_line plain (shaped.not_plain text none s l) = absurd (none plain)
   shaped_line plain (shaped.refused why is s l) = inl (other_text (line_of why) lines l (refusal_is_another why))
   shaped_line plain (shaped.done line s l counted) = inr (done s)
   shaped_line plain (shaped.checked is) = checked_line is
   shaped_line plain (shaped.listed is) = inr (done is.ends)
+  shaped_line plain (shaped.explained is) = explained_line is.config is.path is.tells
   shaped_line plain (shaped.measured is) = inr (done is.ends)
 
   said_line : IsPlain words → Says words before after status lines → IsAnother (concat lines) ⊎ WasDone

@@ -16,7 +16,7 @@ use Rattle.tree_spec.specs.Trees.{Tree}
 use Rattle.trace_spec.specs.Modules.{Config}
 use Rattle.trace_spec.specs.Traces.{generation}
 use Rattle.config_spec.specs.declared.Command.{Command}
-use Rattle.config_spec.specs.declared.Command.TheVariants.{Link, Unlink, Refresh, Inject, Check}
+use Rattle.config_spec.specs.declared.Command.TheVariants.{Link, Unlink, Refresh, Inject, Check, Why}
 use Rattle.config_spec.specs.declared.Command.TheVariants.{List as Lists}
 use Rattle.config_spec.specs.Projects.{project_path, IsConfigOf, IsConfigFor}
 use Rattle.generator_spec.specs.Commands.{map_path}
@@ -28,6 +28,7 @@ own_file Refresh config = []
 own_file Inject config = config.page ∷ []
 own_file Check config = map_path ∷ []
 own_file Lists config = []
+own_file Why config = []
 
 pub record AsksOwn (own old : List (List ℕ)) (after : FolderState) : Type 0 where
   pub first : List (List ℕ)

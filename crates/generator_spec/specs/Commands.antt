@@ -37,7 +37,7 @@ use Rattle.trace_spec.specs.Modules.{Config, web_name}
 use Rattle.trace_spec.specs.Traces.{traced}
 use Rattle.trace_spec.specs.Walking.{the_page}
 use Rattle.config_spec.specs.declared.Command.{Command}
-use Rattle.config_spec.specs.declared.Command.TheVariants.{Link, Unlink, Refresh, Inject, Check}
+use Rattle.config_spec.specs.declared.Command.TheVariants.{Link, Unlink, Refresh, Inject, Check, Why}
 use Rattle.config_spec.specs.declared.Command.TheVariants.{List as Lists}
 use Rattle.generator_spec.specs.declared.MapFileFault.{MapFileFault}
 use Rattle.generator_spec.specs.declared.MapFileFault.TheVariants as map_fault
@@ -49,7 +49,7 @@ use Rattle.generator_spec.specs.Generation.{IsTooWide, IsTooLarge}
 use Rattle.config_spec.specs.Projects.{project_path}
 use Rattle.project_spec.specs.ProjectFiles.{project_text}
 
--- own: `check` and `list` trace, and generate nothing
+-- own: `check`, `list` and `why` trace, and generate nothing
 abbrev pub IsGenerating : Command → Type 0
 IsGenerating Link = ⊤
 IsGenerating Unlink = ⊤
@@ -57,6 +57,7 @@ IsGenerating Refresh = ⊤
 IsGenerating Inject = ⊤
 IsGenerating Check = ⊥
 IsGenerating Lists = ⊥
+IsGenerating Why = ⊥
 
 -- ---- the page
 
@@ -133,6 +134,7 @@ pub data Opens (tree : Tree) (config : Config) : Command → Type 0 where
   has_map : (map : ParsedMap) → HoldsMap tree config map → Opens tree config Check
   no_base : (text : List ℕ) → IsMapText tree text → web_name config the_page ≡ None → Opens tree config Check
   no_file : Opens tree config Lists
+  no_other_file : Opens tree config Why
 
 -- own: the command's file comes before the trace, and behind it a specifier's choices, and then the size of the map
 pub data Refuses (tree : Tree) (config : Config) : Command → Refusal → Type 0 where

@@ -4,39 +4,42 @@
 --     Linked words tree told         the tree's map was written, this is told afterwards, and the map serves
 --     MapServes words tree           the map that is there serves
 --     HasModules words tree          there is a trace, whose modules can be listed
+--     IsLoaded words tree            requests lead from the page to the file that is asked for
 --     IsMeasured words               there is a map of the stated tree
 --     Says words before after status lines      why a command ends with this status and these lines
 --     Ends status text out out_after result     the text went out and the status is answered, or the output failed
 --     TellsRefusal why out out_after result     the same of a refusal, or of want of memory in its place
 use Rattle.std.specs.Prelude.{◌≡◌, ◌≢◌, ◌≤◌, ◌<◌, ◌⊎◌, ◌++◌, ℕ, List, [], ◌∷◌, length, All, Contains}
 use Rattle.std.specs.Prelude.{Option, Some, None, IfSome, Ok}
-use Rattle.std.specs.Prelude.{option_map, take}
+use Rattle.std.specs.Prelude.{map, option_map, take}
 use Rattle.std.specs.FinMap.{get}
 use Rattle.std.specs.List.{concat}
 use Rattle.tree_spec.specs.Counts.{Rose}
 use Rattle.tree_spec.specs.States.{FolderState, SinkState}
 use Rattle.tree_spec.specs.Trees.{Tree}
 use Rattle.import_map_spec.specs.Resolving.{Resolution, Resolved}
+use Rattle.chain_spec.specs.Chains.{IsShortest}
 use Rattle.page_spec.specs.ImportMaps.{IsOneMap}
 use Rattle.trace_spec.specs.Checks.{Gathered}
 use Rattle.trace_spec.specs.Modules.{Config}
 use Rattle.trace_spec.specs.Traces.{traced}
 use Rattle.config_spec.specs.declared.Command.{Command}
-use Rattle.config_spec.specs.declared.Command.TheVariants.{Link, Unlink, Refresh, Inject, Check}
+use Rattle.config_spec.specs.declared.Command.TheVariants.{Link, Unlink, Refresh, Inject, Check, Why}
 use Rattle.config_spec.specs.declared.Command.TheVariants.{List as Lists}
 use Rattle.config_spec.specs.declared.ConfigFault.{ConfigFault}
 use Rattle.generator_spec.specs.declared.Refusal.{Refusal}
 use Rattle.generator_spec.specs.declared.Refusal.TheVariants.{Config as Configured}
 use Rattle.generator_spec.specs.Checking.{check_status, check_lines}
 use Rattle.generator_spec.specs.Commands.{IsGenerating, IsMapText, Opens, IsRefusalOf, NewFile, Writes}
+use Rattle.generator_spec.specs.Explaining.{asked_by, is_at}
 use Rattle.generator_spec.specs.Generation.{PageIsFile, Generates}
 use Rattle.generator_spec.specs.Serves.{Serves, KnowsModules, IsSmallest}
 use Rattle.generator_spec.specs.Statuses.{done_status, words_status, read_fault_status, write_fault_status}
-use Rattle.generator_spec.specs.Statuses.{memory_status}
-use Rattle.config_spec.specs.Words.{IsCommandOf, IsPlain, Measures, RefusesWords}
+use Rattle.generator_spec.specs.Statuses.{memory_status, not_reached_status}
+use Rattle.config_spec.specs.Words.{AsksWhy, IsCommandOf, IsPlain, Measures, RefusesWords}
 use Rattle.config_spec.specs.Projects.{IsConfigOf, IsConfigFor, CanRefuseConfig, measure_config}
 use Rattle.generator_spec.specs.Lines.{status_of, line_of, counts_line, done_line, differs_line, module_line}
-use Rattle.generator_spec.specs.Lines.{measure_line}
+use Rattle.generator_spec.specs.Lines.{measure_line, from_page_line, asks_line, not_reached_line}
 use Rattle.workload_spec.specs.Packages.{tree_of}
 use Rattle.generator_spec.specs.Lines.{memory_line, read_fault_line, write_fault_line}
 use Rattle.generator_spec.specs.Outcome.{FilesPlaced, Outcome}
@@ -66,6 +69,7 @@ IsCarried Refresh map file = file.bytes ≡ map
 IsCarried Inject map file = IsOneMap map file.bytes
 IsCarried Check map file = ⊥
 IsCarried Lists map file = ⊥
+IsCarried Why map file = ⊥
 
 -- own: the command's files are written, of which one carries the map, which is generation's on the tree before, and
 -- through it each request of the page and of each module that the page reaches leads to the file that Node's resolver
@@ -99,6 +103,17 @@ pub record HasModules (words : List (List ℕ)) (tree : Tree) : Type 0 where
   pub all : Gathered
   pub is_traced : traced (get tree) config ≡ Ok all
 
+-- own: it is asked why a file is loaded, and there is a chain of requests that leads to it
+pub record IsLoaded (words : List (List ℕ)) (tree : Tree) : Type 0 where
+  pub path : List ℕ
+  pub asks : AsksWhy words path
+  pub config : Config
+  pub is_config : IsConfigOf words tree Why config
+  pub all : Gathered
+  pub is_traced : traced (get tree) config ≡ Ok all
+  pub numbers : List ℕ
+  pub shortest : IsShortest (asked_by (get tree) config) (is_at config path) numbers
+
 -- own: it is asked to measure a stated tree, for which a map is generated
 pub record IsMeasured (words : List (List ℕ)) : Type 0 where
   pub number : ℕ
@@ -106,12 +121,13 @@ pub record IsMeasured (words : List (List ℕ)) : Type 0 where
   pub map : List ℕ
   pub generates : Generates (tree_of number) measure_config map
 
--- own: the map was written; or the map that is there serves, or the modules were listed, or a stated tree was measured,
--- and nothing was written
+-- own: the map was written; or the map that is there serves, or the modules were listed, or it was told how a file
+-- comes to be loaded, or a stated tree was measured, and nothing was written
 pub data IsDone (words : List (List ℕ)) (tree : Tree) (told : Option Tree) : Type 0 where
   linked : Linked words tree told → IsDone words tree told
   served : MapServes words tree → told ≡ Some tree → IsDone words tree told
   listed : HasModules words tree → told ≡ Some tree → IsDone words tree told
+  explained : IsLoaded words tree → told ≡ Some tree → IsDone words tree told
   measured : IsMeasured words → told ≡ Some tree → IsDone words tree told
 
 -- ---- what is said
@@ -162,6 +178,43 @@ pub record IsListing (words : List (List ℕ)) (status : ℕ) (lines : List (Lis
   pub are_modules : All IsModuleLine lines
   pub ends : status ≡ done_status
 
+-- own: requests as they are told: how each is spelled, and path and suffix of the module that it leads to
+abbrev pub asks_lines : List (List ℕ × List ℕ) → List (List ℕ)
+asks_lines requests = map (λ request. asks_line request.0 request.1) requests
+
+-- own: the first of them is for an entry
+abbrev pub BeginsAt : List (List ℕ) → List (List ℕ × List ℕ) → Type 0
+BeginsAt entries [] = ⊥
+BeginsAt entries (request ∷ more) = Contains entries request.0
+
+-- own: the last of them leads to a module at this path, with any suffix
+abbrev pub StopsAt : List ℕ → List (List ℕ × List ℕ) → Type 0
+StopsAt path [] = ⊥
+StopsAt path (request ∷ []) = (suffix : List ℕ) × (request.1 ≡ path ++ suffix)
+StopsAt path (request ∷ next ∷ more) = StopsAt path (next ∷ more)
+
+-- own: the page alone, where the path is its own; else the page and some requests, from an entry to the path, or that
+-- none lead there
+pub data TellsChain (config : Config) (path : List ℕ) (status : ℕ) (lines : List (List ℕ)) : Type 0 where
+  own_page :
+      path ≡ config.page → status ≡ done_status → lines ≡ from_page_line config.page ∷ []
+      → TellsChain config path status lines
+  reached :
+      (requests : List (List ℕ × List ℕ)) → path ≢ config.page → BeginsAt config.entries requests
+      → StopsAt path requests → status ≡ done_status
+      → lines ≡ from_page_line config.page ∷ asks_lines requests → TellsChain config path status lines
+  not_reached :
+      path ≢ config.page → status ≡ not_reached_status → lines ≡ not_reached_line path ∷ []
+      → TellsChain config path status lines
+
+-- own: the words ask why a file is loaded and can have this config, and the lines are those of some chain, or of none
+pub record IsExplanation (words : List (List ℕ)) (status : ℕ) (lines : List (List ℕ)) : Type 0 where
+  pub path : List ℕ
+  pub asks : AsksWhy words path
+  pub config : Config
+  pub is_config : IsConfigFor words Why config
+  pub tells : TellsChain config path status lines
+
 -- own: the line is that of a measure of as many packages as the words ask for, with some counts
 pub record IsMeasuring (words : List (List ℕ)) (status : ℕ) (lines : List (List ℕ)) : Type 0 where
   pub number : ℕ
@@ -183,7 +236,7 @@ pub data CanRefuse (words : List (List ℕ)) : Refusal → Type 0 where
       (number : ℕ) (why : Refusal) → Measures words number → IsRefusalOf measure_config Refresh why → CanRefuse words why
 
 -- own: status and lines belong together, whatever the folder tells: they are those of words without a meaning, of a
--- refusal, of a map that is written, of a check, of a list, or of a measure
+-- refusal, of a map that is written, of a check, of a list, of a chain of requests, or of a measure
 pub data Shaped (words : List (List ℕ)) (status : ℕ) (lines : List (List ℕ)) : Type 0 where
   not_plain :
       (text : List ℕ) → (IsPlain words → ⊥) → status ≡ words_status → lines ≡ text ∷ [] → Shaped words status lines
@@ -193,6 +246,7 @@ pub data Shaped (words : List (List ℕ)) (status : ℕ) (lines : List (List ℕ
   done : (line : List ℕ) → status ≡ done_status → lines ≡ line ∷ [] → IsCounted words line → Shaped words status lines
   checked : IsChecked words status lines → Shaped words status lines
   listed : IsListing words status lines → Shaped words status lines
+  explained : IsExplanation words status lines → Shaped words status lines
   measured : IsMeasuring words status lines → Shaped words status lines
 
 -- own: there is a map, whose files were written up to one of them, with which this line would have been said; it serves

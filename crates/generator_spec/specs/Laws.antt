@@ -1,17 +1,19 @@
 -- The laws of generation, outcomes and ends. Each is the contract of a function of this crate.
-use Rattle.std.specs.Prelude.{◌≡◌, ◌⊎◌, ℕ, List, Ok, Err}
+use Rattle.std.specs.Prelude.{◌≡◌, ◌⊎◌, ℕ, List, map, Some, Ok, Err}
 use Rattle.std.specs.FinMap.{get}
 use Rattle.tree_spec.specs.States.{FolderState, SinkState}
 use Rattle.tree_spec.specs.Trees.{Tree, IsTree}
 use Rattle.import_map_spec.specs.ParsedMap.{ParsedMap}
+use Rattle.chain_spec.specs.Chains.{Asker, IsReached}
 use Rattle.layout_spec.specs.PrintedMap.{map_text}
 use Rattle.fewest_spec.specs.Fewest.{IsFewestLayout}
 use Rattle.trace_spec.specs.declared.TraceFault.{TraceFault}
-use Rattle.trace_spec.specs.Modules.{Config}
+use Rattle.trace_spec.specs.Modules.{Config, Module}
 use Rattle.trace_spec.specs.Checks.{Gathered}
-use Rattle.trace_spec.specs.Traces.{traced}
+use Rattle.trace_spec.specs.Traces.{leads, specifiers, traced}
 use Rattle.config_spec.specs.Words.{IsPlain, IsSession}
 use Rattle.generator_spec.specs.Digests.{with_digests}
+use Rattle.generator_spec.specs.Explaining.{asked_by, referrer_of}
 use Rattle.generator_spec.specs.Generation.{Generates, IsTooWide, IsTooLarge, map_base}
 use Rattle.generator_spec.specs.Outcome.{Outcome}
 use Rattle.generator_spec.specs.Ending.{EndsAs}
@@ -45,6 +47,17 @@ NothingRefused =
     (tree : Tree) (config : Config) (bytes : List ℕ) → Generates tree config bytes
     → ((fault : TraceFault) → traced (get tree) config ≡ Err fault → ⊥) × (IsTooWide tree config → ⊥)
     × (IsTooLarge tree config → ⊥)
+
+-- ---- chains
+
+-- where there is a trace, no request of an asker that the page reaches is left out: the one with a number leads to the
+-- module with that number
+abbrev pub RequestsAreNumbered : Type 0
+RequestsAreNumbered =
+    (tree : Tree) (config : Config) (all : Gathered) → traced (get tree) config ≡ Ok all → (asker : Asker Module)
+    → IsReached (asked_by (get tree) config) asker
+    → map Some (asked_by (get tree) config asker)
+    ≡ map (leads (get tree) config (referrer_of asker)) (specifiers (get tree) config (referrer_of asker))
 
 -- ---- outcomes
 

@@ -19,6 +19,9 @@
 --     limit_line which      the line of this limit, with its number
 --     part_name part      the name of a part of an import map
 --     module_line name requests      the line of a module, by its path with its suffix
+--     from_page_line path            the line of the page, from which a chain of requests leads
+--     asks_line specifier name       the line of a request of a chain, with the module that it leads to
+--     not_reached_line path          the line of a path to which no chain leads
 use Rattle.std.specs.Prelude.{ℕ, List, [], ◌∷◌, ◌++◌, length, codes, unwrap_or}
 use Rattle.std.specs.Fmt.{decimal}
 use Rattle.tree_spec.specs.declared.LimitName.{LimitName}
@@ -274,3 +277,15 @@ differences_line count = decimal count ++ (codes " differences" ++ end_of_line)
 -- own: path and suffix as one text, and the number of requests
 abbrev pub module_line : List ℕ → ℕ → List ℕ
 module_line name requests = quoted name ++ (codes " " ++ (decimal requests ++ end_of_line))
+
+-- ---- what is said of a chain
+
+abbrev pub from_page_line : List ℕ → List ℕ
+from_page_line path = text_line (codes "page ") path
+
+-- own: how the request is spelled, and path and suffix of the module as one text
+abbrev pub asks_line : List ℕ → List ℕ → List ℕ
+asks_line specifier name = pair_line (codes "asks ") specifier (codes " gets ") name
+
+abbrev pub not_reached_line : List ℕ → List ℕ
+not_reached_line path = text_line (codes "not reached: ") path

@@ -12,16 +12,17 @@ use Rattle.trace_spec.specs.Checks.{Gathered}
 use Rattle.trace_spec.specs.Modules.{Config}
 use Rattle.trace_spec.specs.Traces.{traced}
 use Rattle.config_spec.specs.declared.Command.{Command}
-use Rattle.config_spec.specs.declared.Command.TheVariants.{Check, List as Lists}
+use Rattle.config_spec.specs.declared.Command.TheVariants.{Check, Why, List as Lists}
 use Rattle.config_spec.specs.declared.ConfigFault.{ConfigFault}
 use Rattle.generator_spec.specs.declared.Refusal.{Refusal}
 use Rattle.generator_spec.specs.declared.Refusal.TheVariants.{Config as Configured}
 use Rattle.generator_spec.specs.Checking.{difference_lines, check_status, check_lines}
 use Rattle.generator_spec.specs.Listing.{list_lines}
+use Rattle.generator_spec.specs.Explaining.{SaysWhy}
 use Rattle.generator_spec.specs.Commands.{HoldsMap, Refuses, NewFile, Writes}
 use Rattle.generator_spec.specs.Generation.{Generates}
 use Rattle.generator_spec.specs.Statuses.{done_status, words_status}
-use Rattle.config_spec.specs.Words.{IsPlain, Measures, RefusesWords}
+use Rattle.config_spec.specs.Words.{AsksWhy, IsPlain, Measures, RefusesWords}
 use Rattle.config_spec.specs.Projects.{IsConfigOf, RefusesConfig, measure_config}
 use Rattle.generator_spec.specs.Lines.{status_of, line_of, done_line, measured_line}
 use Rattle.generator_spec.specs.Measuring.{RefusesMeasure}
@@ -38,7 +39,8 @@ pub data RefusesRun (words : List (List ℕ)) (tree : Tree) : Refusal → Type 0
   by_measure : (number : ℕ) (why : Refusal) → Measures words number → RefusesMeasure number why → RefusesRun words tree why
 
 -- own: a refusal writes nothing. Where nothing is refused, the command's files are written, with the map that is
--- generated; or it is said which of the trace's needs the map that is there doesn't serve, or which modules it has.
+-- generated; or it is said which of the trace's needs the map that is there doesn't serve, or which modules it has, or
+-- by which requests the page comes to load a file, if it does.
 -- A measure says how much is generated for its own tree, whatever the folder holds. Words without a meaning are answered
 -- with some text
 pub data ComesTo (words : List (List ℕ)) (tree : Tree) (status : ℕ) (lines : List (List ℕ))
@@ -62,6 +64,10 @@ pub data ComesTo (words : List (List ℕ)) (tree : Tree) (status : ℕ) (lines :
   listed :
       (config : Config) (all : Gathered) → IsConfigOf words tree Lists config → traced (get tree) config ≡ Ok all
       → status ≡ done_status → lines ≡ list_lines all → files ≡ [] → ComesTo words tree status lines files
+  explained :
+      (path : List ℕ) (config : Config) (all : Gathered) → AsksWhy words path → IsConfigOf words tree Why config
+      → traced (get tree) config ≡ Ok all → SaysWhy (get tree) config path status lines → files ≡ []
+      → ComesTo words tree status lines files
   measured :
       (number : ℕ) (map : List ℕ) → Measures words number → (generates : Generates (tree_of number) measure_config map)
       → status ≡ done_status → lines ≡ measured_line number generates.all generates.layout ∷ [] → files ≡ []

@@ -8,6 +8,7 @@
 --     differences_status        a need isn't served
 --     file_status               a file that the command needs isn't there, or isn't of its form
 --     memory_status             want of memory
+--     not_reached_status        no chain of requests leads to the file
 --     LeavesTree status         with this status the tree is as it was; with that of success it may be too
 use Rattle.std.specs.Prelude.{◌≡◌, ◌⊎◌, ℕ}
 
@@ -38,7 +39,11 @@ file_status = 7
 abbrev pub memory_status : ℕ
 memory_status = 8
 
+abbrev pub not_reached_status : ℕ
+not_reached_status = 10
+
 abbrev pub LeavesTree : ℕ → Type 0
 LeavesTree status =
     (status ≡ refused_status) ⊎ (status ≡ words_status) ⊎ (status ≡ limit_status) ⊎ (status ≡ read_fault_status)
     ⊎ (status ≡ differences_status) ⊎ (status ≡ file_status) ⊎ (status ≡ memory_status)
+    ⊎ (status ≡ not_reached_status)

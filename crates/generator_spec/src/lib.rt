@@ -3,7 +3,7 @@
 #![tactic(auto)]
 
 ghost use Rattle.generator_spec.specs.Laws.{OneGeneration, SomeGeneration, NothingRefused};
-ghost use Rattle.generator_spec.specs.Laws.{OneOutcome, SomeOutcome, EndsKeepPromises};
+ghost use Rattle.generator_spec.specs.Laws.{RequestsAreNumbered, OneOutcome, SomeOutcome, EndsKeepPromises};
 
 pub use config_spec::Command;
 use config_spec::ConfigFault;
@@ -67,6 +67,11 @@ pub fn some_generation()
 /// Where something is generated, nothing of the trace is refused, and neither a specifier's choices nor the map's size.
 pub fn nothing_refused()
     ensures { NothingRefused }
+{}
+
+/// Where there is a trace, the request with a number leads to the module with that number.
+pub fn requests_are_numbered()
+    ensures { RequestsAreNumbered }
 {}
 
 /// A command over a tree has one outcome at most.

@@ -2,7 +2,7 @@ ghost use Rattle.std.specs.Prelude.{◌≡◌, ◌+◌, ◌-◌, ◌^◌, ◌<�
 ghost use Rattle.slot_arena.specs.Slots.{value_at, IsFresh, set_at, with_places, taken_from};
 ghost use Rattle.slot_arena.specs.Counts.{spare, live, wanted, GrewLess};
 ghost use Rattle.module_graph.specs.Modules.{IsModule, SetsTarget};
-ghost use Rattle.module_graph.specs.Graphs.{Connects};
+ghost use Rattle.module_graph.specs.Graphs.{AreModules, Connects};
 
 use crate::module::Module;
 use crate::view::View;
@@ -97,7 +97,8 @@ impl Graph {
 
     /// Lends the graph to be looked at.
     pub fn view(&self) -> View<'_>
-        ensures { result ≡ self.now }
+        ensures graph { result ≡ self.now }
+        ensures modules { AreModules self.now }
     {
         View::of(self)
     }

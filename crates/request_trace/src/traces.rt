@@ -5,6 +5,7 @@ ghost use Rattle.layout_spec.specs.Needs.{NoClash};
 ghost use Rattle.url_spec.specs.WebNames.{web};
 ghost use Rattle.trace_walk.specs.Shown.{before_of};
 ghost use Rattle.trace_walk.specs.Walking.{AreBeside, AreOfUrls, IsWhole, module_requests};
+ghost use Rattle.module_graph.specs.Graphs.{AreModules};
 ghost use Rattle.trace_graph.specs.Links.{IsLinked, IsLive, module_of, source_of};
 ghost use Rattle.request_trace.specs.Naming.{AllNamedAt};
 ghost use Rattle.request_trace.specs.Showing.{Shows};
@@ -84,6 +85,7 @@ impl Trace {
         ensures graph { result ≡ self.now.links.graph }
         ensures shows { Shows self.now }
         ensures linked { IsLinked self.now.links }
+        ensures modules { AreModules self.now.links.graph }
     {
         self.graph.view()
     }
@@ -104,6 +106,13 @@ impl Trace {
         ensures live { IfSome result (IsLive self.now.links.graph) }
     {
         self.graph.root(entry)
+    }
+
+    /// The slots of the modules to which the entries lead.
+    pub fn roots(&self) -> &[Slot]
+        ensures { result.now ≡ self.now.links.roots }
+    {
+        self.graph.roots()
     }
 
     /// The needs, each at its first place. The referrer of each parses to itself.

@@ -142,6 +142,36 @@ pub fn push_module_line(
     text.extend_from_slice(count.as_bytes())
 }
 
+/// The line of the page, from which a chain of requests leads.
+pub fn from_page_line(alloc: Global, path: &str) -> Result<Vec<u8>, Memory>
+    ensures { IfOk result (λ line. line.items ≡ spec.from_page_line path.now) }
+{
+    text_line(alloc, "page ", path)
+}
+
+/// Puts the line of a request of a chain to a text: how it is spelled, and the module that it leads to.
+pub fn push_asks_line(
+    alloc: Global,
+    text: &mut Vec<u8>,
+    specifier: &str,
+    path: &str,
+    suffix: &str,
+) -> Result<(), Memory>
+    ensures { OnOk result (text.new.items
+        ≡ text.old.items ++ spec.asks_line specifier.now (path.now ++ suffix.now)) }
+{
+    let name = format!(in alloc; "{path}{suffix}")?;
+    text.extend_from_slice(b"asks ".as_slice())?;
+    push_pair(text, specifier, " gets ", name.as_str())
+}
+
+/// The line of a path to which no chain of requests leads.
+pub fn not_reached_line(alloc: Global, path: &str) -> Result<Vec<u8>, Memory>
+    ensures { IfOk result (λ line. line.items ≡ spec.not_reached_line path.now) }
+{
+    text_line(alloc, "not reached: ", path)
+}
+
 /// The line that tells of a refusal.
 pub fn line_of(alloc: Global, refusal: &Refusal) -> Result<Vec<u8>, Memory>
     ensures { IfOk result (λ line. line.items ≡ spec.line_of refusal.now) }

@@ -18,6 +18,8 @@ pub const WRITE_FAULT: u8 = 5;
 pub const DIFFERENCES: u8 = 6;
 /// Want of memory.
 pub const MEMORY: u8 = 8;
+/// No chain of requests leads to the file.
+pub const NOT_REACHED: u8 = 10;
 
 /// A request, a module or the page is refused.
 const REFUSED: u8 = 1;

@@ -1,2 +1,3 @@
 mod Linking
 pub mod Showing
+pub mod Alone

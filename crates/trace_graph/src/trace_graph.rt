@@ -2,6 +2,7 @@ ghost use Rattle.std.specs.Prelude.{◌≡◌, ◌≤◌, ◌+◌, ◌<◌, All,
 ghost use Rattle.std.specs.Prelude.{take, drop, vec_len};
 ghost use Rattle.tree_spec.specs.declared.LimitName.TheVariants.{Modules};
 ghost use Rattle.tree_spec.specs.Limits.{limit_number};
+ghost use Rattle.module_graph.specs.Graphs.{AreModules};
 ghost use Rattle.module_graph.specs.Modules.{IsModule};
 ghost use Rattle.module_graph.specs.Many.{requests_in};
 ghost use Rattle.trace_graph.specs.Links.{IsLinked, IsLive, module_of, source_of, modules_of, sources_of};
@@ -61,6 +62,7 @@ impl TraceGraph {
     pub fn view(&self) -> View<'_>
         ensures graph { result ≡ self.now.graph }
         ensures linked { IsLinked self.now }
+        ensures modules { AreModules self.now.graph }
     {
         self.graph.view()
     }
@@ -79,6 +81,13 @@ impl TraceGraph {
         ensures live { IfSome result (IsLive self.now.graph) }
     {
         slot_in(&self.roots, entry)
+    }
+
+    /// The slots of the modules to which the entries lead.
+    pub fn roots(&self) -> &[Slot]
+        ensures { result.now ≡ self.now.roots }
+    {
+        self.roots.as_slice()
     }
 
     /// The number of modules.

@@ -13,6 +13,8 @@ pub(crate) const AFTER: &str = "Examples, in the folder of the site:
       write the map anew after a file or a package has changed
   salimgub list
       print the modules in the order in which they are first asked for
+  salimgub why /node_modules/lit/index.js
+      say by which imports the page comes to this file
   salimgub measure 200
       show that the program runs, and how fast, on 200 packages in memory
 
@@ -31,7 +33,8 @@ Status:
   5  writing failed
   6  differences were found
   7  a file isn't of its form: the project, the map, the page or a line of a session
-  8  there is no memory left";
+  8  there is no memory left
+  10 why: no import leads to the file";
 
 pub(crate) const LINK: &str =
     "Add entries to the project, and write the map and the project's file";
@@ -46,6 +49,8 @@ pub(crate) const CHECK: &str =
     "Compare the map's file with what the modules need, and write nothing";
 
 pub(crate) const LIST: &str = "Print the modules, each with the number of its requests";
+
+pub(crate) const WHY: &str = "Print the shortest chain of imports from the page to a file";
 
 pub(crate) const SESSION: &str =
     "Keep the map current: read edits from the standard input, and reply to each";
@@ -65,5 +70,7 @@ pub(crate) const ENTRIES: &str =
     "What the page imports: ./app.mjs, or a package as lit or @scope/ui/button.js";
 
 pub(crate) const UNLINKED: &str = "What the page no longer imports, written as it was linked";
+
+pub(crate) const FILE: &str = "The file's path below this folder, as /lib/words.mjs";
 
 pub(crate) const NUMBER: &str = "How many packages, from 1 to 2000";

@@ -1,9 +1,9 @@
-ghost use Rattle.std.specs.Prelude.{◌≡◌, false, IfOk, true};
+ghost use Rattle.std.specs.Prelude.{◌≡◌, false, IfOk, true, codes};
 ghost use Rattle.clap.specs.Words.{app_of, rule_of};
 ghost use Rattle.clap.specs.declared.builder.Command.TheViews.{out-Command as fields_of};
 ghost use Rattle.words_clap_spec.specs.Program as spec;
 ghost use Rattle.words_clap_spec.specs.Program.{entries_rule, link_command, measure_command, number_rule, option_rule};
-ghost use Rattle.words_clap_spec.specs.Program.{program, unlink_command};
+ghost use Rattle.words_clap_spec.specs.Program.{path_command, path_rule, program, unlink_command};
 
 use crate::help;
 use clap::{Arg, ArgAction, Command};
@@ -20,6 +20,7 @@ pub fn command<'a>(alloc: Global) -> Result<Command<'a>, AllocError>
         .subcommand(plain(alloc, "inject", help::INJECT))?
         .subcommand(plain(alloc, "check", help::CHECK))?
         .subcommand(plain(alloc, "list", help::LIST))?
+        .subcommand(why(alloc)?)?
         .subcommand(plain(alloc, "session", help::SESSION))?
         .subcommand(measure(alloc)?)
 }
@@ -58,6 +59,13 @@ fn unlink<'a>(alloc: Global) -> Result<Command<'a>, AllocError>
         .arg(entries(alloc, help::UNLINKED).required(true))
 }
 
+fn why<'a>(alloc: Global) -> Result<Command<'a>, AllocError>
+    ensures app { IfOk result (λ command. app_of command ≡ path_command (codes "why")) }
+    ensures local { IfOk result (λ command. (fields_of command).has_globals ≡ false) }
+{
+    Command::new(alloc, "why").about(help::WHY).arg(path(alloc))
+}
+
 fn measure<'a>(alloc: Global) -> Result<Command<'a>, AllocError>
     ensures app { IfOk result (λ command. app_of command ≡ measure_command) }
     ensures local { IfOk result (λ command. (fields_of command).has_globals ≡ false) }
@@ -92,6 +100,16 @@ fn entries<'a>(alloc: Global, about: &'a str) -> Arg<'a>
         .action(ArgAction::Append)
         .value_name("ENTRY")
         .help(about)
+}
+
+fn path<'a>(alloc: Global) -> Arg<'a>
+    ensures rule { rule_of result ≡ path_rule }
+    ensures local { result.global ≡ false }
+{
+    Arg::new(alloc, "path")
+        .value_name("PATH")
+        .required(true)
+        .help(help::FILE)
 }
 
 fn number<'a>(alloc: Global) -> Arg<'a>

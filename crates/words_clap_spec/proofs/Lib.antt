@@ -6,4 +6,5 @@ mod LinkTurns
 mod LinkWalk
 mod UnlinkWalk
 mod MeasureWalk
+mod PathWalk
 pub mod PlainWords

@@ -9,13 +9,15 @@ use Rattle.std.specs.Int.Digits.{digits_of}
 use Rattle.std.specs.List.{All, fold, list_all}
 use Rattle.std.proofs.Common.{◌≡◌, ◌≢◌, ◌<◌, ◌+◌, ◌&&◌, ℕ, List, [], ◌∷◌, ◌++◌, append-nil, append_assoc, codes, length, map, Option, Some, true, false, is_some, refl, sym, ap, ap₂, ◌∙◌, subst, arith}
 use Rattle.std.proofs.lemmas.Fmt.{decimal-digits_of, decimal_nonempty}
-use Rattle.words_spec.specs.PlainWords.{Asked, Asks, IsValue, LinkOptions, LinkWords, no_options, linking, unlinking, measuring, link, unlink, refresh, check, list, inject, session, measure}
+use Rattle.words_spec.specs.PlainWords.{Asked, Asks, IsValue, LinkOptions, LinkWords, no_options, linking, unlinking, explaining, measuring, link, unlink, refresh, check, list, inject, session, why, measure}
 use Rattle.words_clap_spec.specs.Holding.{Holds, HoldsLink, row}
 use Rattle.words_clap_spec.specs.Laws.{HelpIsAskedFor, PlainWordsAreHeld, PlainWordsPass, ProgramIsSimple}
 use Rattle.words_clap_spec.specs.Program.{program}
 use Rattle.words_clap_spec.proofs.LinkWalk.{link_level, link_rows, link_words_end}
 use Rattle.words_clap_spec.proofs.MeasureWalk.{measure_level, measure_rows}
+use Rattle.words_clap_spec.proofs.PathWalk.{path_level, path_rows_found}
 use Rattle.words_clap_spec.proofs.UnlinkWalk.{unlink_level, unlink_rows}
+use Rattle.words_spec.proofs.Values.{no_hyphen_first}
 
 abbrev whole : App
 whole = built program
@@ -46,6 +48,10 @@ link_stops rest = stops (codes "link") [] rest
 unlink_stops : (rest : List Text) → fold (walked whole.top.rules names) (walk_from nothing_held) (codes "unlink" ∷ rest) ≡ stop (codes "unlink") rest
 unfolding clap_on_literals
 unlink_stops rest = stops (codes "unlink") [] rest
+
+why_stops : (rest : List Text) → fold (walked whole.top.rules names) (walk_from nothing_held) (codes "why" ∷ rest) ≡ stop (codes "why") rest
+unfolding clap_on_literals
+why_stops rest = stops (codes "why") [] rest
 
 measure_stops : (rest : List Text) → fold (walked whole.top.rules names) (walk_from nothing_held) (codes "measure" ∷ rest) ≡ stop (codes "measure") rest
 unfolding clap_on_literals
@@ -90,6 +96,17 @@ unlink_taken word words all = record {
       ∙ ap (λ rows. Some (codes "unlink", rows)) (unlink_rows word words all);
 }
 
+why_taken : (path : Text) → IsValue path → Taken (codes "why" ∷ path ∷ []) (explaining path)
+unfolding clap_on_literals
+why_taken [] is = absurd (is.nonempty refl)
+why_taken (b ∷ bs) is =
+    let ne = no_hyphen_first b bs is in
+    record {
+      is_taken = above_passes (codes "why") ((b ∷ bs) ∷ []) (why_stops ((b ∷ bs) ∷ [])) (stop_passes (codes "why") [] ((b ∷ bs) ∷ [])) (path_level (codes "why") b bs ne) refl;
+      held = rows_below (codes "why") ((b ∷ bs) ∷ []) (why_stops ((b ∷ bs) ∷ []))
+          ∙ ap (λ rows. Some (codes "why", rows)) (path_rows_found (codes "why") b bs ne);
+    }
+
 number_taken : (number : ℕ) (b : ℕ) (bs : List ℕ) → decimal number ≡ b ∷ bs → b ≢ 45 → Taken (codes "measure" ∷ (b ∷ bs) ∷ []) (measuring number)
 unfolding clap_on_literals
 number_taken number b bs is ne = record {
@@ -115,6 +132,7 @@ taken check = record { is_taken = refl; held = refl }
 taken list = record { is_taken = refl; held = refl }
 taken inject = record { is_taken = refl; held = refl }
 taken session = record { is_taken = refl; held = refl }
+taken (why path is) = why_taken path is
 taken (measure number least most) =
     measure_taken number (decimal number) (digits_of 10 number) refl (decimal-digits_of number least (omega arith)) (decimal_nonempty number (omega arith))
 

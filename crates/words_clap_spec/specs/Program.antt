@@ -2,7 +2,8 @@
 --     program      the program with its commands
 --     top          the program without them
 --     link_command, unlink_command, measure_command      the commands that take words
---     option_rule name, entries_rule, number_rule        their arguments
+--     path_command name      a command that takes a path
+--     option_rule name, entries_rule, path_rule, number_rule     their arguments
 --     plain_command name      a command that takes nothing
 use Rattle.clap.specs.Simple.{on_top}
 use Rattle.clap.specs.Words.{App, Rule, Text, new_app, new_rule, with_rule, with_subcommand}
@@ -15,6 +16,9 @@ option_rule name = record (new_rule name) { long = Some name; value_names = 1 }
 abbrev pub entries_rule : Rule
 entries_rule = record (new_rule (codes "entries")) { action = Some Append; value_names = 1 }
 
+abbrev pub path_rule : Rule
+path_rule = record (new_rule (codes "path")) { value_names = 1; required = true }
+
 abbrev pub number_rule : Rule
 number_rule = record (new_rule (codes "number")) { value_names = 1; required = true }
 
@@ -25,6 +29,9 @@ link_command =
 
 abbrev pub unlink_command : App
 unlink_command = with_rule (new_app (codes "unlink")) (record entries_rule { required = true })
+
+abbrev pub path_command : Text → App
+path_command name = with_rule (new_app name) path_rule
 
 abbrev pub measure_command : App
 measure_command = with_rule (new_app (codes "measure")) number_rule
@@ -41,8 +48,8 @@ plain_command name = new_app name
 -- own: in the order of the help's text
 abbrev pub program : App
 program =
-    with_subcommand (with_subcommand (with_subcommand (with_subcommand
+    with_subcommand (with_subcommand (with_subcommand (with_subcommand (with_subcommand
     (with_subcommand (with_subcommand (with_subcommand (with_subcommand top
     link_command.top) unlink_command.top) (plain_command (codes "refresh")).top) (plain_command (codes "inject")).top)
-    (plain_command (codes "check")).top) (plain_command (codes "list")).top) (plain_command (codes "session")).top)
-    measure_command.top
+    (plain_command (codes "check")).top) (plain_command (codes "list")).top) (path_command (codes "why")).top)
+    (plain_command (codes "session")).top) measure_command.top

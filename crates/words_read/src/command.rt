@@ -26,6 +26,8 @@ pub enum Command<'a> {
     Inject,
     /// To read edits from the input.
     Session,
+    /// To print how the page comes to load the file at this path.
+    Why(&'a str),
     /// To generate over a tree of this size.
     Measure(u64),
 }

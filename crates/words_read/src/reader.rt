@@ -1,12 +1,12 @@
 ghost use Rattle.std.specs.Prelude.{◌≡◌, MatchOption, map, string_bytes, option_map};
 ghost use Rattle.words_read.specs.Shown.{AsksNothing, options_of, shown};
-ghost use Rattle.words_spec.specs.PlainWords.{Asks, no_options};
+ghost use Rattle.words_spec.specs.PlainWords.{Asks, explaining, no_options};
 ghost use Rattle.words_spec.specs.Reading as reading;
 
 use crate::command::{Command, LinkValues};
 use crate::link::link_from;
 use crate::number::number_in;
-use crate::values::are_values;
+use crate::values::{are_values, is_value};
 
 /// What the words ask for; None exactly where they aren't plain.
 pub fn read(words: &[String]) -> Option<Command<'_>>
@@ -29,6 +29,9 @@ fn reading_of(words: &[String]) -> Option<Command<'_>>
     }
     if command == "measure" {
         return measure_of(rest);
+    }
+    if command == "why" {
+        return why_of(rest);
     }
     if !rest.is_empty() {
         return None;
@@ -64,6 +67,16 @@ fn measure_of(words: &[String]) -> Option<Command<'_>>
     }
     let number = number_in(text.as_str())?;
     Some(Command::Measure(number))
+}
+
+fn why_of(words: &[String]) -> Option<Command<'_>>
+    ensures { option_map shown result ≡ reading.path_reading explaining (map string_bytes words.now) }
+{
+    let (path, rest) = words.split_first()?;
+    if !rest.is_empty() || !is_value(path.as_str()) {
+        return None;
+    }
+    Some(Command::Why(path.as_str()))
 }
 
 fn plain_command(command: &str) -> Option<Command<'_>>

@@ -12,7 +12,8 @@
 --     by_spelling spelling options entries next      `entries`, where the word is no option; else `next` reads the
 --         rest, waiting for the option's value, or with that among the options, where it may be there
 --     with_number number next      what comes of a number, where there is one
---     measure_reading words, unlink_reading words      what is asked for by the words after `measure`, after `unlink`
+--     measure_reading words, unlink_reading words, path_reading asked words      what is asked for by the words after
+--         `measure`, after `unlink`, after a command that takes one path
 --     without_more words asked      what is asked for, where no word is left
 --     command_reading command rest      what is asked for by a command's name and the words behind it
 use Rattle.std.specs.List.{list_all}
@@ -21,8 +22,8 @@ use Rattle.std.specs.Prelude.{Option, Some, None, if◌then◌else◌, nat_lt, i
 use Rattle.words_spec.specs.declared.LinkOption.{LinkOption}
 use Rattle.words_spec.specs.declared.LinkOption.TheVariants.{Base, Page, Conditions}
 use Rattle.words_spec.specs.PlainWords.{Asked, LinkOptions, no_options, spelled, value_of, with_value, linking}
-use Rattle.words_spec.specs.PlainWords.{unlinking, refreshing, checking, listing, injecting, editing, measuring}
-use Rattle.words_spec.specs.PlainWords.{most_packages}
+use Rattle.words_spec.specs.PlainWords.{unlinking, refreshing, checking, listing, injecting, editing, explaining}
+use Rattle.words_spec.specs.PlainWords.{measuring, most_packages}
 
 abbrev pub is_value : List ℕ → Bool
 is_value [] = false
@@ -104,6 +105,11 @@ abbrev pub unlink_reading : List (List ℕ) → Option Asked
 unlink_reading [] = None
 unlink_reading (word ∷ rest) = if list_all is_value (word ∷ rest) then Some (unlinking (word ∷ rest)) else None
 
+abbrev pub path_reading : (List ℕ → Asked) → List (List ℕ) → Option Asked
+path_reading asked [] = None
+path_reading asked (path ∷ []) = if is_value path then Some (asked path) else None
+path_reading asked (path ∷ more ∷ rest) = None
+
 -- the commands that take nothing
 abbrev pub plain_command : List ℕ → Option Asked
 plain_command command =
@@ -122,7 +128,8 @@ command_reading command rest =
     if bytes_eq command (codes "link") then link_reading rest None no_options
     else (if bytes_eq command (codes "unlink") then unlink_reading rest
     else (if bytes_eq command (codes "measure") then measure_reading rest
-    else without_more rest (plain_command command)))
+    else (if bytes_eq command (codes "why") then path_reading explaining rest
+    else without_more rest (plain_command command))))
 
 abbrev pub reading_of : List (List ℕ) → Option Asked
 reading_of [] = None

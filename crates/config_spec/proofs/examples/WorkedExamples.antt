@@ -11,6 +11,7 @@ use Rattle.std.proofs.lemmas.List.Elements.{All-head}
 use Rattle.std.proofs.lemmas.Map.Keys.{IsDistinct-head}
 use Rattle.tree_spec.proofs.ByteLists.{texts_differ}
 use Rattle.tree_spec.proofs.Insertion.{get_other}
+use Rattle.tree_spec.specs.Paths.{IsPath}
 use Rattle.tree_spec.specs.Trees.{bare_tree, Tree}
 use Rattle.tree_spec.specs.declared.Entry.TheVariants.{Directory}
 use Rattle.url_spec.proofs.Bases.{bases_stay}
@@ -22,14 +23,15 @@ use Rattle.url_spec.specs.WorkedExamples.{BaseExamples}
 use Rattle.node_spec.specs.Conditions.{AreConditions, IsCondition}
 use Rattle.trace_spec.specs.Modules.{Config}
 use Rattle.words_spec.proofs.ReadIsPlain.{read_is_plain}
-use Rattle.words_spec.specs.PlainWords.{Asked, no_options, linking, refreshing}
+use Rattle.words_spec.specs.PlainWords.{Asked, Asks, no_options, linking, refreshing, explaining}
 use Rattle.words_spec.specs.Reading.{reading_of}
 use Rattle.config_spec.proofs.Options.{no_settings_set}
 use Rattle.config_spec.proofs.TwoConditions.{two_conditions}
 use Rattle.config_spec.specs.Projects.{config_by, HoldsProject, project_path, RefusesConfig, with_few}
 use Rattle.config_spec.specs.Projects.HoldsProject.{absent, folder, too_large}
 use Rattle.project_spec.specs.ProjectFiles.{IsPagePath}
-use Rattle.config_spec.specs.Words.{command_of, no_settings, options_of, Sets}
+use Rattle.config_spec.specs.Words.{command_of, IsCommandOf, no_settings, options_of, Sets}
+use Rattle.config_spec.specs.Words.RefusesWords.{bad_file}
 use Rattle.config_spec.specs.Words.RefusesOptions.{bad_base, bad_conditions, bad_path}
 use Rattle.config_spec.specs.Words.SetsBase.{none as no_base, given as some_base}
 use Rattle.config_spec.specs.Words.SetsConditions.{none as no_names, given as some_names}
@@ -37,7 +39,7 @@ use Rattle.config_spec.specs.Words.SetsPage.{none as no_page}
 use Rattle.config_spec.specs.declared.ConfigFault.{ConfigFault}
 use Rattle.config_spec.specs.declared.ConfigFault.TheVariants.{NoBase, Project, TooManyEntries}
 use Rattle.config_spec.specs.declared.Command.{Command}
-use Rattle.config_spec.specs.declared.Command.TheVariants.{Link, Refresh}
+use Rattle.config_spec.specs.declared.Command.TheVariants.{Link, Refresh, Why}
 use Rattle.config_spec.specs.declared.ProjectFault.{ProjectFault}
 use Rattle.config_spec.specs.declared.ProjectFault.TheVariants.{Absent, TooLarge}
 use Rattle.config_spec.specs.WorkedExamples.{OptionExamples, LinkExamples, ProjectExamples, EntryExamples}
@@ -107,6 +109,7 @@ project_examples = record {
   refresh_nothing = refl;
   list = refl;
   list_nothing = refl;
+  why = refl;
   check_nothing = refl;
   inject_large = refl;
 }
@@ -177,10 +180,35 @@ refused_by words tree asked command found fault read is none holds comes = recor
       };
 }
 
+-- a path that is asked for
+explains :
+    {words : List (List ℕ)} (path : List ℕ) → Asks words (explaining path)
+    → command_of (explaining path) ≡ Some Why → IsCommandOf words Why
+explains path asks is = record {
+  asked = explaining path;
+  asks = asks;
+  is = is;
+  settings = no_settings;
+  sets = no_settings_set;
+}
+
+not_path : (text : List ℕ) → is_path text ≡ false → IsPath text → ⊥
+not_path text e is = true≢false (sym (test_by_path text is) ∙ e)
+
 word_examples : WordExamples
 word_examples = record {
   session = read_is_plain (codes "session" ∷ []) _ refl;
   measured = read_is_plain (codes "measure" ∷ codes "200" ∷ []) _ refl;
+  why = explains (codes "/a.mjs") (read_is_plain (codes "why" ∷ codes "/a.mjs" ∷ []) _ refl) refl;
+  why_root = explains (codes "/") (read_is_plain (codes "why" ∷ codes "/" ∷ []) _ refl) refl;
+  why_no_path =
+      bad_file (codes "a.mjs") (read_is_plain (codes "why" ∷ codes "a.mjs" ∷ []) _ refl) (not_path (codes "a.mjs") refl);
+  why_up =
+      bad_file (codes "/a/../b.mjs") (read_is_plain (codes "why" ∷ codes "/a/../b.mjs" ∷ []) _ refl)
+      (not_path (codes "/a/../b.mjs") refl);
+  why_nothing =
+      refused_by (codes "why" ∷ codes "/a.mjs" ∷ []) bare_tree (explaining (codes "/a.mjs")) Why (Ok None)
+      (Project Absent) refl refl refl no_project refl;
   no_base =
       refused_by (codes "link" ∷ codes "./app.mjs" ∷ []) bare_tree (linking no_options (codes "./app.mjs" ∷ [])) Link
       (Ok None) NoBase refl refl refl no_project refl;

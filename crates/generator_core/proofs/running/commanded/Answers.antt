@@ -29,3 +29,6 @@ returns-in-Check g c = runs_as _ _ _ _ _ _ _ _ _ _ c.in-Check.is c.check.ensures
 
 pub returns-in-List : goal.returns-in-List
 returns-in-List g c = runs_as _ _ _ _ _ _ _ _ _ _ c.in-List.is c.list.ensures
+
+pub unreachable-requires : goal.unreachable-requires
+unreachable-requires g c = c.requires c.in-Why.is

@@ -1,11 +1,14 @@
-use Rattle.std.proofs.Common.{rules, sym, subst}
+use Rattle.std.proofs.Common.{rules, sym, subst, ◌∙◌}
 use Rattle.command_words.specs.Orders.{command_ordered}
 use Rattle.generator_spec.specs.Commands.{IsGenerating}
 use Rattle.generator_spec.specs.Asked.{AsksInOrder, IsConfigAt}
 use Rattle.generator_core.specs.Configuring.{FindsConfig}
 use Rattle.generator_core.proofs.Endings.{config_stop_end, ends_from, stop_spends}
-use Rattle.generator_core.proofs.Runs.{command_is, config_asks, config_still, for_all_words, project_asks}
+use Rattle.generator_core.proofs.Runs.{command_is, config_asks, config_still, for_all_words, not_why, project_asks}
 use Rattle.generator_core.proofs.running.ordered.Goals as goal
+
+pub commanded-requires : goal.commanded-requires
+commanded-requires g c = λ why. not_why c.args.order (sym c.command-command.ensures ∙ why)
 
 pub returns-in-Ok-clause-end : goal.returns-in-Ok-clause-end
 returns-in-Ok-clause-end g c =

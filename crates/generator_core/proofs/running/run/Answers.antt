@@ -3,10 +3,12 @@ use Rattle.std.specs.Prelude.{map, string_bytes}
 use Rattle.tree_spec.proofs.ToldStates.{if_some}
 use Rattle.config_spec.proofs.WordsJudged.{words_are_judged}
 use Rattle.config_spec.specs.Words.{IsSession, Measures}
-use Rattle.command_words.specs.Orders.{IsOrder, IsWanted, command_ordered}
+use Rattle.config_spec.specs.declared.Command.TheVariants.{Why}
+use Rattle.command_words.specs.Orders.{AsksWhyAt, IsOrder, IsWanted, command_ordered}
 use Rattle.generator_spec.specs.Commands.{IsGenerating}
 use Rattle.generator_spec.specs.Steps.{MeasureSpends}
 use Rattle.generator_core.proofs.Endings.{words_end}
+use Rattle.generator_core.proofs.Explainings.{why_command}
 use Rattle.generator_core.proofs.HeldSessions.{unread_ends}
 use Rattle.generator_core.proofs.Measurings.{few_packages}
 use Rattle.generator_core.proofs.Runs.{command_is, words_not_done, asks_nothing_in_order}
@@ -36,6 +38,31 @@ returns-in-Ok-Order-clause-idle g c =
     let words = map string_bytes c.args.words.now in
     let is : IsOrder words c.in-Ok-Order.order = subst (IsWanted words) c.in-Ok-Order.field-0-is c.in-Ok-Order.ensures in
     λ idle. absurd (idle.no_command _ (command_is words c.in-Ok-Order.order is))
+
+pub returns-in-Ok-Why-clause-ends : goal.returns-in-Ok-Why-clause-ends
+returns-in-Ok-Why-clause-ends g c =
+    let words = map string_bytes c.args.words.now in
+    let is : AsksWhyAt words c.in-Ok-Why.path = subst (IsWanted words) c.in-Ok-Why.field-0-is c.in-Ok-Why.ensures in
+    let commanded = why_command words c.in-Ok-Why.path is in
+    record {
+      command = λ none. record {
+        end = c.explain.ensures.end words is;
+        asked = if_some (g.F.Folder.state c.args.folder.now).asked (λ old each. each words is) c.explain.ensures.asked;
+        steps = record {
+          told = λ command is_too generating zero. absurd (subst IsGenerating ((words_are_judged words).one_command command Why is_too commanded) generating);
+          measured = λ number asks zero. absurd ((words_are_judged words).no_command number Why asks commanded);
+          bounded = c.explain.ensures.steps.bounded;
+          unspent = λ none no_measure. absurd (none Why commanded);
+        };
+      };
+      session = λ asks. absurd ((words_are_judged words).session_or_command Why asks commanded);
+    }
+
+pub returns-in-Ok-Why-clause-idle : goal.returns-in-Ok-Why-clause-idle
+returns-in-Ok-Why-clause-idle g c =
+    let words = map string_bytes c.args.words.now in
+    let is : AsksWhyAt words c.in-Ok-Why.path = subst (IsWanted words) c.in-Ok-Why.field-0-is c.in-Ok-Why.ensures in
+    λ idle. absurd (idle.no_command Why (why_command words c.in-Ok-Why.path is))
 
 pub measure-requires : goal.measure-requires
 measure-requires g c =
