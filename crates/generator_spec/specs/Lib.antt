@@ -7,6 +7,7 @@ pub mod Serves
 pub mod Lines
 pub mod Checking
 pub mod Listing
+pub mod Strictness
 pub mod Explaining
 pub mod Outcome
 pub mod Asked
