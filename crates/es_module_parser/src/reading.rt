@@ -40,8 +40,7 @@ fn seen_at(token: Token, plain: bool, depth: usize, behind: usize) -> Seen
     }
 }
 
-// Whether a text is one of the two words. Few tokens are as long as they are, so this is asked before the kind, which
-// is seldom foreseen.
+// Whether a text is one of the two words.
 fn begins_declaration(text: &[u8]) -> bool
     ensures { result ≡ (bytes_eq text.now (codes "import") || bytes_eq text.now (codes "export")) }
 {
@@ -60,7 +59,7 @@ fn is_idle(progress: Progress, after: After, kind: Kind, text: &[u8]) -> bool
             After::Dot => false,
             After::Call => false,
             After::Argument(_) => false,
-            After::Other => !(begins_declaration(text) && is_name(kind)),
+            After::Other => !(is_name(kind) && begins_declaration(text)),
         },
     }
 }
