@@ -3,6 +3,7 @@ pub mod Choices
 pub mod Generations
 pub mod Explanations
 pub mod RequestNumbers
+pub mod CopiedMaps
 pub mod Nameless
 pub mod MapPaths
 pub mod Refusals

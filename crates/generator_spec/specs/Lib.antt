@@ -3,6 +3,7 @@ pub mod Commands
 pub mod Measuring
 pub mod Digests
 pub mod Generation
+pub mod CopiedMaps
 pub mod Serves
 pub mod Lines
 pub mod Checking

@@ -5,8 +5,11 @@
 ghost use Rattle.generator_spec.specs.Laws.{OneGeneration, SomeGeneration, NothingRefused};
 ghost use Rattle.generator_spec.specs.Laws.{RequestsAreNumbered, OneOutcome, SomeOutcome, EndsKeepPromises};
 
+mod copies;
+
 pub use config_spec::Command;
 use config_spec::ConfigFault;
+pub use copies::{copy_generates, vendored_generates};
 use import_map_spec::MapPart;
 use page_spec::InjectFault;
 use primitives::Text;

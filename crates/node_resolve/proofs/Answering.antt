@@ -131,6 +131,7 @@ reframed before after one other r q a memory read back possible comes within = r
   tells = tells_as before.folder.holds before after one other r q comes a.tells;
   known = a.known;
   trail = a.trail;
+  covered = λ finished covers. a.covered (λ e. finished (memory e)) covers;
   asked = if_some {P = λ old. AsksOnce old before after (r ≡ fails no_memory) (IsLookOf before one)}
       {Q = λ old. AsksOnce old before after (q ≡ fails no_memory) (IsLookOf before other)} before.folder.asked
       (λ old. asks_finished old before after (r ≡ fails no_memory) (q ≡ fails no_memory) (IsLookOf before one)

@@ -1,6 +1,8 @@
 -- What is counted by what a look sees.
-use Rattle.std.proofs.Common.{◌≡◌, ◌+◌, ℕ, nat_lt, Bool, true, false, List, length, Option, Some, None, Result, Ok, Err, refl, sym, ap, ◌∙◌, subst}
-use Rattle.std.specs.Prelude.{◌||◌, not, if◌then◌else◌}
+use Rattle.std.proofs.Common.{◌≡◌, ◌⊎◌, ◌+◌, ◌∷◌, [], ℕ, nat_lt, Bool, true, false, List, length, Option, Some, None, Result, Ok, Err, refl, sym, ap, ◌∙◌, subst, inl, inr}
+use Rattle.std.specs.Prelude.{◌||◌, not, if◌then◌else◌, Contains}
+use Rattle.std.proofs.lemmas.List.Elements.{Contains-append_cases}
+use Rattle.tree_spec.proofs.Contained.{contains_cases, contains_none}
 use Rattle.std.proofs.Common.{⊎_elim}
 use Rattle.std.proofs.lemmas.Bool.{cond-true, cond-false, cases_Bool}
 use Rattle.tree_spec.specs.LookAskings.{is_seen}
@@ -12,7 +14,7 @@ use Rattle.tree_spec.specs.declared.LimitName.TheVariants.{File, Bytes, Looks}
 use Rattle.tree_spec.specs.declared.Look.TheVariants as look
 use Rattle.package_lookup.specs.declared.held.Seen.{Seen}
 use Rattle.package_lookup.specs.declared.held.Seen.TheVariants as seen
-use Rattle.package_lookup.specs.SeenLooks.{entry_of, look_seen, within_limit, seen_as}
+use Rattle.package_lookup.specs.SeenLooks.{entry_of, look_seen, within_limit, IsWithin, seen_as}
 use Rattle.package_lookup.specs.Responses.{Response, passes, fails, by_limit}
 use Rattle.package_lookup.specs.Trails.{has_room}
 
@@ -81,7 +83,7 @@ within_by trail after path found true few true heavy e = absurd (cc)
 within_by trail after path found false true true heavy e = absurd (cc)
 within_by trail after path found false false true heavy e = absurd (cc)
 
-counted_within : (trail after : Trail) (path : List ℕ) (found : Option Entry)
+pub counted_within : (trail after : Trail) (path : List ℕ) (found : Option Entry)
     → counted look_limits trail path found ≡ Ok after → is_large found ≡ false
 counted_within trail after path found e =
     within_by trail after path found (is_seen path trail.paths) (nat_lt (length trail.paths) look_limits.looks)
@@ -168,6 +170,40 @@ counted_alike trail path found some e =
     (λ large. large_alike trail path found (entry_of some) (large_seen found (e ∙ large_is some large)) large)
     (λ small. ap (counted look_limits trail path) (stands found some (e ∙ small_is some small)))
     (cases_Bool (is_large (entry_of some)))
+
+pub small_within : (some : Seen) → is_large (entry_of some) ≡ false → IsWithin (Some (look_seen some))
+small_within seen.Absent e = tt
+small_within seen.Folder e = tt
+small_within (seen.File bytes) e = e
+
+after_by : (trail after : Trail) (path : List ℕ) (found : Option Entry) (seen few large heavy : Bool)
+    → by_tests trail path found seen few large heavy ≡ Ok after → (other : List ℕ) → Contains after.paths other
+    → Contains trail.paths other ⊎ (other ≡ path)
+after_by trail after path found true few false heavy e other held =
+    let same : seen_again trail path ≡ after = cc in
+    inl (subst (λ (t : Trail). Contains t.paths other) (sym same) held)
+after_by trail after path found true few true heavy e other held = absurd (cc)
+after_by trail after path found false false large heavy e other held = absurd (cc)
+after_by trail after path found false true true heavy e other held = absurd (cc)
+after_by trail after path found false true false true e other held = absurd (cc)
+after_by trail after path found false true false false e other held =
+    let same : seen_first trail path found ≡ after = cc in
+    elim (Contains-append_cases trail.paths (path ∷ []) other
+    (subst (λ (t : Trail). Contains t.paths other) (sym same) held)) [
+      | inl before ↦ inl before
+      | inr last ↦ elim (contains_cases other path [] last) [
+        | inl this ↦ inr (sym this)
+        | inr none ↦ absurd (contains_none other none)
+      ]
+    ]
+
+-- one look more counts one path more, at most
+pub counted_paths : (trail after : Trail) (path : List ℕ) (found : Option Entry)
+    → counted look_limits trail path found ≡ Ok after → (other : List ℕ) → Contains after.paths other
+    → Contains trail.paths other ⊎ (other ≡ path)
+counted_paths trail after path found e other held =
+    after_by trail after path found (is_seen path trail.paths) (nat_lt (length trail.paths) look_limits.looks)
+    (is_large found) (nat_lt look_limits.bytes (trail.size + size_at found)) e other held
 
 -- and stands there as it was seen, where it was counted
 pub stands_counted : (trail after : Trail) (path : List ℕ) (found : Option Entry) (some : Seen)

@@ -37,6 +37,7 @@ use Rattle.package_lookup.specs.declared.fault.LookupFault.{LookupFault}
 use Rattle.package_lookup.specs.declared.fault.LookupFault.TheVariants.{ReadFault, Limit, InvalidConfig, Memory}
 use Rattle.package_lookup.specs.declared.known.Known.{Known}
 use Rattle.package_lookup.specs.Looked.{laid_at, kept_at, known_at, look_or, look_in, Sees, Grows, IsSameKnown}
+use Rattle.package_lookup.specs.SeenLooks.{IsWithin}
 use Rattle.package_lookup.specs.Responses.{Failing, passes, not_read, no_memory, never, Response, given, fails, by_limit, by_fault, looked, bad_config, deep_config, resolved}
 use Rattle.package_lookup.specs.Answered.{State, state, Fails, Comes, Tells, IsLookOf, AsksOnce, Answered}
 use Rattle.package_lookup.specs.Trails.{Lengthens}
@@ -59,6 +60,17 @@ held_by : (some other : Option Look) → ((look : Look) → some ≡ Some look �
     → is_some some ≡ true → is_some other ≡ true
 held_by None other grows e = absurd (cc)
 held_by (Some look) other grows e = ap is_some (grows look refl)
+
+within_by : (some other : Option Look) → ((look : Look) → some ≡ Some look → other ≡ Some look) → IsWithin some
+    → IsWithin other
+within_by None other grows within = absurd within
+within_by (Some look) other grows within = subst IsWithin (sym (grows look refl)) within
+
+-- what is known within the limit stays so
+pub covers_still : (before after : Known) → Grows before after → (path : List ℕ) → IsWithin (known_at before path)
+    → IsWithin (known_at after path)
+covers_still before after grows path =
+    within_by (known_at before path) (known_at after path) (known_grows before after grows path)
 
 none_by : (some other : Option Look) → ((look : Look) → some ≡ Some look → other ≡ Some look) → other ≡ None
     → some ≡ None
@@ -292,6 +304,7 @@ then_given {X} before middle after part next value response one rest = record {
       (subst (λ told. IfSome told (λ tree. Tells tree middle (next value) response after)) one.folder.tree rest.tells);
   known = grows_twice before.known middle.known after.known one.known rest.known;
   trail = lengthens_twice before.trail middle.trail after.trail one.trail rest.trail;
+  covered = λ finished covers. rest.covered finished (one.covered (λ e. cc) covers);
   asked = if_some {P = λ old. AsksOnce old before middle (given value ≡ fails no_memory) (IsLookOf before part)}
       {Q = λ old. AsksOnce old before after (response ≡ fails no_memory) (IsLookOf before (and_then part next))}
       before.folder.asked
@@ -314,6 +327,7 @@ then_fails {X} {Y} before after part next failing one = record {
       (λ tree. tells_fails tree before after part next failing) one.tells;
   known = one.known;
   trail = one.trail;
+  covered = λ finished covers. one.covered (λ e. finished (carried failing no_memory e)) covers;
   asked = if_some {P = λ old. AsksOnce old before after (failed X failing ≡ fails no_memory) (IsLookOf before part)}
       {Q = λ old. AsksOnce old before after (failed Y failing ≡ fails no_memory) (IsLookOf before (and_then part next))}
       before.folder.asked
@@ -341,6 +355,7 @@ nothing before asking response comes read possible = record {
   tells = nothing_told before asking response before.folder.holds comes;
   known = grows_itself before.known;
   trail = lengthens_itself before.trail;
+  covered = λ finished covers. covers;
   asked = asks_nothing_told before.folder.asked before before (response ≡ fails no_memory) (IsLookOf before asking)
       refl;
   folder = no_looks before.folder (response ≡ fails not_read) read;
@@ -363,6 +378,7 @@ unfinished {X} {Y} before after part next value one = record {
       (λ tree. tells_unfinished tree before after part (given value) (and_then part next)) one.tells;
   known = one.known;
   trail = one.trail;
+  covered = λ finished covers. absurd (finished refl);
   asked = if_some {P = λ old. AsksOnce old before after (given value ≡ fails no_memory) (IsLookOf before part)}
       {Q = λ old. AsksOnce old before after (failed Y no_memory ≡ fails no_memory) (IsLookOf before (and_then part next))}
       before.folder.asked
@@ -466,6 +482,8 @@ known_on before after known asking response same one = record {
     under = λ path look e. same.kept path ∙ one.known.under path look e;
   };
   trail = one.trail;
+  covered = λ finished covers path held.
+      subst IsWithin (sym (same_known_at after.known known same path)) (one.covered finished covers path held);
   asked = if_some {P = λ old. AsksOnce old before after (response ≡ fails no_memory) (IsLookOf before asking)}
       {Q = λ old. AsksOnce old before (state after.folder known after.trail) (response ≡ fails no_memory) (IsLookOf before asking)}
       before.folder.asked

@@ -18,14 +18,14 @@ use Rattle.package_lookup.specs.declared.fault.LookupFault.{LookupFault}
 use Rattle.package_lookup.specs.declared.fault.LookupFault.TheVariants.{ReadFault, Limit, InvalidConfig, Memory}
 use Rattle.package_lookup.specs.declared.held.Seen.{Seen}
 use Rattle.package_lookup.specs.declared.known.Known.{Known}
-use Rattle.package_lookup.specs.SeenLooks.{entry_of, look_seen, within_limit, seen_as}
-use Rattle.package_lookup.specs.Looked.{known_at, look_or, look_in, Sees}
+use Rattle.package_lookup.specs.SeenLooks.{entry_of, look_seen, within_limit, IsWithin, seen_as}
+use Rattle.package_lookup.specs.Looked.{known_at, look_or, look_in, Sees, Grows}
 use Rattle.package_lookup.specs.Trails.{has_room, OnCount, Lengthens}
 use Rattle.package_lookup.specs.Responses.{passes, not_read, no_memory, never, Response, given, fails, by_limit, by_fault}
-use Rattle.package_lookup.specs.Answered.{State, state, Comes, Tells, IsLookOf, AsksOnce, Answered}
+use Rattle.package_lookup.specs.Answered.{State, state, Comes, Tells, IsLookOf, IsCovered, AsksOnce, Answered}
 use Rattle.package_lookup.specs.Fetching.{unknown, IsAsked, Fetches}
-use Rattle.package_lookup.proofs.LookCounts.{counted_large, counted_many, counted_named, counted_alike, stands_counted, large_seen}
-use Rattle.package_lookup.proofs.Questions.{nothing, asks_nothing, failed, lengthens_itself}
+use Rattle.package_lookup.proofs.LookCounts.{counted_large, counted_many, counted_named, counted_alike, counted_paths, counted_within, small_within, stands_counted, large_seen}
+use Rattle.package_lookup.proofs.Questions.{nothing, asks_nothing, covers_still, failed, lengthens_itself}
 
 abbrev End : Type 0
 End = Ended (Option Entry) Trail LimitName
@@ -101,17 +101,34 @@ module _ (before after : FolderState) (old new : Known) (trail : Trail) (path : 
       → Fetches before old path result after new → Told old new trail path response later
       → ((more : List (List ℕ)) → IsAsked old path result more → Covers old new path (response ≡ fails no_memory) more)
       → OnlyLooks before after (response ≡ fails not_read) → response ≢ fails never → Lengthens trail later
+      → (response ≢ fails no_memory → IsCovered (state before old trail) → IsCovered (state after new later))
       → Answered (state before old trail) (look_at path) response (state after new later)
-  answers later result response fetches told covers only possible lengthens = record {
+  answers later result response fetches told covers only possible lengthens keeps = record {
     tells = tells_told before.holds before after old new trail later path response told fetches.same;
     known = fetches.grows;
     trail = lengthens;
+    covered = keeps;
     asked = asks_told before.asked (state before old trail) (state after new later) (response ≡ fails no_memory)
         (IsLookOf (state before old trail) (look_at path)) path result (looks_there path before.holds old) covers
         fetches.asked;
     folder = only;
     possible = possible;
   }
+
+  -- no path more is counted
+  still_covered : Grows old new → IsCovered (state before old trail) → IsCovered (state after new trail)
+  still_covered grows covers other held = covers_still old new grows other (covers other held)
+
+  -- the path is counted, whose look is known
+  now_covered : (later : Trail) (some : Seen) → Grows old new → known_at new path ≡ Some (look_seen some)
+      → counted look_limits trail path (entry_of some) ≡ Ok later → IsCovered (state before old trail)
+      → IsCovered (state after new later)
+  now_covered later some grows known count covers other held =
+      elim (counted_paths trail later path (entry_of some) count other held) [
+        | inl earlier ↦ covers_still old new grows other (covers other earlier)
+        | inr same ↦ subst IsWithin (sym (ap (known_at new) same ∙ known))
+            (small_within some (counted_within trail later path (entry_of some) count))
+      ]
 
   -- no look failed
   fine : (look : Look) (response : Response (Option Entry)) → (response ≡ fails not_read → ⊥)
@@ -148,6 +165,7 @@ module _ (before after : FolderState) (old new : Known) (trail : Trail) (path : 
       ∙ ap (λ found. ends found later) (stands_counted trail later path (sights path) some seen count))
       (covered (look_seen some) (given (entry_of some) ≡ fails no_memory) fetches.known)
       (fine (look_seen some) (given (entry_of some)) (λ e. cc) fetches.folder) (λ e. cc) lengthens
+      (λ finished. now_covered later some fetches.grows fetches.known count)
 
   limit_passed : (look : Look) (which : LimitName) → Fetches before old path (Ok look) after new
       → ((tree : Tree) → Same tree old new → (sights : Sights) → Sees tree old sights
@@ -158,6 +176,7 @@ module _ (before after : FolderState) (old new : Known) (trail : Trail) (path : 
       (λ tree same sights sees. ap (ends_by sights) (count tree same sights sees))
       (covered look (failed (Option Entry) (passes which) ≡ fails no_memory) fetches.known)
       (fine look (fails (passes which)) (λ e. cc) fetches.folder) (λ e. cc) (lengthens_itself trail)
+      (λ finished. still_covered fetches.grows)
 
   pub sight_large : Fetches before old path (Ok TooLarge) after new → has_room trail path ≡ true
       → Answered (state before old trail) (look_at path) (fails (passes limit.File)) (state after new trail)
@@ -172,6 +191,7 @@ module _ (before after : FolderState) (old new : Known) (trail : Trail) (path : 
       answers later (Ok look) (fails no_memory) fetches (λ tree same sights sees. tt)
       (covered look (failed (Option Entry) no_memory ≡ fails no_memory) fetches.known)
       (fine look (fails no_memory) (λ e. cc) fetches.folder) (λ e. cc) lengthens
+      (λ finished. absurd (finished refl))
 
   pub sight_fault : (later : Trail) (some : Seen) (fault : LookupFault)
       → Fetches before old path (Ok (look_seen some)) after new
@@ -198,7 +218,7 @@ module _ (before after : FolderState) (old new : Known) (trail : Trail) (path : 
         later = fetches.folder.later;
         cause = λ e. fetches.folder.cause refl;
         quiet = λ none. absurd (none refl);
-      }) (λ e. cc) (lengthens_itself trail)
+      }) (λ e. cc) (lengthens_itself trail) (λ finished. still_covered fetches.grows)
   sight_failed Memory fetches =
       answers trail (Err Memory) (fails no_memory) fetches (λ tree same sights sees. tt)
       (λ more is. ⊎_elim (λ none. inl none) (λ one. inr (one, (λ finished. absurd (finished refl)))) is)
@@ -208,7 +228,7 @@ module _ (before after : FolderState) (old new : Known) (trail : Trail) (path : 
         later = fetches.folder.later;
         cause = λ e. absurd (cc);
         quiet = λ none. fetches.folder.quiet (λ e. cc);
-      }) (λ e. cc) (lengthens_itself trail)
+      }) (λ e. cc) (lengthens_itself trail) (λ finished. absurd (finished refl))
   sight_failed InvalidConfig fetches = absurd fetches.outside
   sight_failed (Limit which) fetches = absurd fetches.outside
 

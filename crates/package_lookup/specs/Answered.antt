@@ -5,6 +5,7 @@
 --     AsksOnce old before after unfinished Among
 --                                           the folder was asked for no path that was known, for none twice, and for
 --                                           those alone of which this holds
+--     IsCovered at                          of each path that was counted a look is known, and no file above the limit
 --     Answered before asking response after what the call does
 --     Asks before path after                the folder was asked for the path where it isn't known, and only there
 use Rattle.std.specs.Prelude.{◌≡◌, ◌≢◌, ◌++◌, [], ◌∷◌, ℕ, List, Some, None, All, Contains, ⊤, IfSome, is_some, Bool}
@@ -18,6 +19,7 @@ use Rattle.tree_spec.specs.Trees.{Tree}
 use Rattle.tree_spec.specs.declared.LimitName.{LimitName}
 use Rattle.package_lookup.specs.declared.known.Known.{Known}
 use Rattle.package_lookup.specs.Looked.{known_at, look_in, Sees, Grows}
+use Rattle.package_lookup.specs.SeenLooks.{IsWithin}
 use Rattle.package_lookup.specs.Trails.{has_room, Lengthens}
 use Rattle.package_lookup.specs.Responses.{Failing, passes, not_read, no_memory, never, Response, given, fails}
 
@@ -66,12 +68,16 @@ pub record AsksOnce (old : List (List ℕ)) (before after : State) (unfinished :
   pub held : (unfinished → ⊥) → All (λ path. is_some (known_at after.known path) ≡ true) more
   pub among : All Among more
 
+abbrev pub IsCovered : State → Type 0
+IsCovered at = (path : List ℕ) → Contains at.trail.paths path → IsWithin (known_at at.known path)
+
 -- what no tree has to be told for: what was known stays, what was looked at stays counted, the folder is only looked at
 pub record Answered {X : Type 0} (before : State) (asking : LookAsking X) (response : Response X)
     (after : State) : Type 0 where
   pub tells : IfSome before.folder.holds (λ tree. Tells tree before asking response after)
   pub known : Grows before.known after.known
   pub trail : Lengthens before.trail after.trail
+  pub covered : response ≢ fails no_memory → IsCovered before → IsCovered after
   pub asked :
       IfSome before.folder.asked
       (λ old. AsksOnce old before after (response ≡ fails no_memory) (IsLookOf before asking))

@@ -1,7 +1,7 @@
-ghost use Rattle.std.specs.Prelude.{◌≡◌, ℕ, length, Some, IfOk};
+ghost use Rattle.std.specs.Prelude.{◌≡◌, ℕ, length, Some, IfOk, option_copied};
 ghost use Rattle.tree_spec.specs.LookLimits.{size_at};
 ghost use Rattle.tree_spec.specs.declared.Look.{Look};
-ghost use Rattle.package_lookup.specs.SeenLooks.{entry_of, look_of, look_seen};
+ghost use Rattle.package_lookup.specs.SeenLooks.{bytes_of, entry_of, look_of, look_seen};
 ghost use Rattle.package_lookup.specs.Readings.{IsReadingOf, AreReadingsOf};
 
 use package_record::Package;
@@ -31,6 +31,17 @@ impl Seen {
             Seen::Absent => Ok(Seen::Absent),
             Seen::Folder => Ok(Seen::Folder),
             Seen::File(bytes) => Ok(Seen::File(Rc::clone(bytes)?)),
+        }
+    }
+
+    /// The bytes of a file.
+    pub fn file(&self) -> Option<&[u8]>
+        ensures { option_copied result ≡ bytes_of (look_seen self.now) }
+    {
+        match self {
+            Seen::Absent => None,
+            Seen::Folder => None,
+            Seen::File(bytes) => Some(bytes.as_bytes()),
         }
     }
 
@@ -112,6 +123,16 @@ impl Held {
         Held {
             seen: Some(seen),
             reading: Some(reading),
+        }
+    }
+
+    /// The bytes of the file that was seen; none where that was no file, or one above the limit.
+    pub fn file(&self) -> Option<&[u8]>
+        ensures { option_copied result ≡ bytes_of self.now }
+    {
+        match &self.seen {
+            None => None,
+            Some(seen) => seen.file(),
         }
     }
 

@@ -56,6 +56,13 @@ impl Known {
         mem::swap(&mut self.laid, over);
     }
 
+    /// The look at a path that the folder gave; none exactly where it gave none.
+    pub fn kept(&self, path: &Path) -> Option<&Held>
+        ensures { option_copied result ≡ kept_at self.now path.now }
+    {
+        self.kept.get(path)
+    }
+
     /// What stands at a path: as the look that is laid over it says, else as the folder said when it was asked, which
     /// it is now where it wasn't yet.
     pub fn look<F: Folder>(
@@ -126,7 +133,7 @@ impl Known {
     {
         match self.laid.find(path) {
             Some(held) => Some(held),
-            None => self.kept.get(path),
+            None => self.kept(path),
         }
     }
 

@@ -17,7 +17,7 @@ mod trail;
 
 pub use fault::LookupFault;
 pub use format::{Format, folder_of, format_of};
-pub use held::Seen;
+pub use held::{Held, Seen};
 pub use known::Known;
 pub use node_spec::Reason;
 pub use over::Over;

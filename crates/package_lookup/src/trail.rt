@@ -57,6 +57,13 @@ impl Trail {
         self.asked.clear();
     }
 
+    /// All paths at which was looked, in the order of first looks.
+    pub fn paths(&self) -> &[Path]
+        ensures { result.now ≡ self.now.paths }
+    {
+        self.paths.as_slice()
+    }
+
     /// The paths at which the present question looked, in the order of first looks.
     pub fn question(&self) -> &Paths
         ensures { result.now ≡ self.now.question }

@@ -7,7 +7,7 @@
 --     traces_moved         the same beside another name for the state
 --     traces_nothing       there is no memory for a walk
 --     traced_kind          why there is no trace
---     first_name, second_name, third_name      the references
+--     first_name, second_name, third_name, fourth_name      the references
 --     takes_moved          the steps beside another name for what they end with
 --     named_limit, limit_ends, look_ends      a limit that ends a walk
 use Rattle.std.proofs.Common.{◌≡◌, ◌≤◌, ◌+◌, ℕ, List, Option, Some, None, Result, Ok, Err, IfSome, refl, sym, ap, ◌∙◌, subst, arith}
@@ -152,6 +152,7 @@ module _ (references : List ℕ) (before after : State) (question : Question) (r
         (IsAskedBy (answers_of references before) (fine (ask question answered))) (λ e. is ∙ ap result_by e) asked_by
         (learns_at (afresh before) after before.trail after.trail (response ≡ fails no_memory)
         (IsLookOf (afresh before) (put question)) (learns_by (afresh before) after (put question) response a));
+    covered = λ finished covers. a.covered (λ e. finished (is ∙ ap result_by e)) covers;
   }
 
 -- ---- the walk
@@ -266,14 +267,17 @@ look_ends {X} which ne = limit_ends {X = X} (fails never) which ne (λ e. ne (ap
 
 -- ---- the references
 
-pub first_name : {a b c x y z : ℕ} → (a ∷ b ∷ c ∷ []) ≡ (x ∷ y ∷ z ∷ []) → a ≡ x
+pub first_name : {a b c d x y z w : ℕ} → (a ∷ b ∷ c ∷ d ∷ []) ≡ (x ∷ y ∷ z ∷ w ∷ []) → a ≡ x
 first_name e = cc
 
-pub second_name : {a b c x y z : ℕ} → (a ∷ b ∷ c ∷ []) ≡ (x ∷ y ∷ z ∷ []) → b ≡ y
+pub second_name : {a b c d x y z w : ℕ} → (a ∷ b ∷ c ∷ d ∷ []) ≡ (x ∷ y ∷ z ∷ w ∷ []) → b ≡ y
 second_name e = cc
 
-pub third_name : {a b c x y z : ℕ} → (a ∷ b ∷ c ∷ []) ≡ (x ∷ y ∷ z ∷ []) → c ≡ z
+pub third_name : {a b c d x y z w : ℕ} → (a ∷ b ∷ c ∷ d ∷ []) ≡ (x ∷ y ∷ z ∷ w ∷ []) → c ≡ z
 third_name e = cc
+
+pub fourth_name : {a b c d x y z w : ℕ} → (a ∷ b ∷ c ∷ d ∷ []) ≡ (x ∷ y ∷ z ∷ w ∷ []) → d ≡ w
+fourth_name e = cc
 
 -- ---- steps
 

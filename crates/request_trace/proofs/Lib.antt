@@ -3,4 +3,5 @@ pub mod AnswerLemmas
 mod NamedModules
 mod Lending
 mod JoinedTables
+mod TrailPaths
 mod Showings

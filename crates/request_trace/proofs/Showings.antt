@@ -9,8 +9,9 @@ use Rattle.trace_graph.specs.Links.{Links}
 use Rattle.trace_spec.specs.Checks.{Spelling}
 use Rattle.request_trace.specs.Showing.{Shows, traced_in}
 
-pub shows_own : (l : Links) (needs : List Need) (spellings : List Spelling) → Shows (traced_in l needs spellings)
-shows_own l needs spellings = record { modules_are = refl; sources_are = refl; targets_are = refl }
+pub shows_own : (l : Links) (needs : List Need) (spellings : List Spelling) (footprint : List (List ℕ))
+    → Shows (traced_in l needs spellings footprint)
+shows_own l needs spellings footprint = record { modules_are = refl; sources_are = refl; targets_are = refl }
 
 past : {X : Type 0} (xs : List X) (i : ℕ) → slice_get xs i ≡ None → length xs ≤ i
 past [] i none = omega arith

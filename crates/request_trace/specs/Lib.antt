@@ -1,5 +1,6 @@
 pub mod Answering
 pub mod Tracing
+pub mod Footprints
 pub mod Naming
 pub mod Joining
 pub mod Showing

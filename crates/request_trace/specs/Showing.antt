@@ -1,7 +1,7 @@
 -- A trace, as a contract sees it.
---     Traced                                  what was gathered, and the graph of its modules
+--     Traced                                  what was gathered, the graph of its modules, and where was looked for it
 --     gathered_in l needs spellings           what is gathered in this graph, with these needs and spellings
---     traced_in l needs spellings             the trace of these
+--     traced_in l needs spellings footprint   the trace of these
 --     gathered_of result                      what was gathered, or why it wasn't
 --     Shows trace                             the modules that were gathered, their sources, and where each request
 --                                             leads, are those of the graph
@@ -18,6 +18,7 @@ use Rattle.url_spec.specs.WebNames.{web}
 pub record Traced : Type 0 where
   pub gathered : Gathered
   pub links : Links
+  pub footprint : List (List ℕ)
 
 abbrev pub gathered_in : Links → List Need → List Spelling → Gathered
 gathered_in l needs spellings =
@@ -29,8 +30,13 @@ gathered_in l needs spellings =
       targets = targets_of l;
     }
 
-abbrev pub traced_in : Links → List Need → List Spelling → Traced
-traced_in l needs spellings = record { gathered = gathered_in l needs spellings; links = l }
+abbrev pub traced_in : Links → List Need → List Spelling → List (List ℕ) → Traced
+traced_in l needs spellings footprint =
+    record {
+      gathered = gathered_in l needs spellings;
+      links = l;
+      footprint = footprint;
+    }
 
 abbrev pub gathered_of : {E : Type 0} → Result Traced E → Result Gathered E
 gathered_of (Ok trace) = Ok trace.gathered

@@ -1,6 +1,8 @@
 ghost use Rattle.std.specs.Prelude.{◌≡◌, ◌+◌, IfOk, length};
 ghost use Rattle.request_trace.specs.Showing.{gathered_of};
+ghost use Rattle.request_trace.specs.Footprints.{IsFootprint};
 ghost use Rattle.request_trace.specs.Tracing.{TakesSteps, Traces, TracesTables};
+ghost use Rattle.tree_spec.specs.LookLimits.{no_trail};
 
 use crate::folder_answers::FolderAnswers;
 use crate::traces::Trace;
@@ -25,12 +27,15 @@ pub fn trace<F: Folder, L: Ledger>(
     ensures traces { Traces config.now (F.state folder.old) known.old (gathered_of result) (F.state folder.new)
         known.new }
     ensures entries { IfOk result (λ trace. length trace.links.roots ≡ length config.now.entries) }
+    ensures footprint { IfOk result (λ trace. IsFootprint config.now (F.state folder.old) known.old known.new
+        trace.footprint) }
     ensures steps { TakesSteps result (λ trace. length trace.gathered.sources + length trace.gathered.targets)
         steps.old steps.new }
 {
     let base = config.base().copy(alloc)?;
-    let tables = tables_of(alloc, folder, known, config, steps)?;
-    let trace = Trace::of(alloc, base, tables, config.entries().len())?;
+    let mut trail = Trail::new(alloc);
+    let tables = tables_of(alloc, folder, known, &mut trail, config, steps)?;
+    let trace = Trace::of(alloc, base, tables, config.entries().len(), trail)?;
     Ok(trace)
 }
 
@@ -39,17 +44,20 @@ fn tables_of<F: Folder, L: Ledger>(
     alloc: Global,
     folder: &mut F,
     known: &mut Known,
+    trail: &mut Trail,
     config: &Config,
     steps: &mut Steps<L>,
 ) -> Result<Tables, TraceFault>
-    ensures { TracesTables config.now (F.state folder.old) known.old result (F.state folder.new) known.new
+    requires { trail.old ≡ no_trail }
+    ensures footprint { IfOk result (λ tables. IsFootprint config.now (F.state folder.old) known.old known.new
+        trail.new.paths) }
+    ensures traces { TracesTables config.now (F.state folder.old) known.old result (F.state folder.new) known.new
         steps.old steps.new }
 {
-    let mut trail = Trail::new(alloc);
     let mut answers = FolderAnswers {
         folder,
         known,
-        trail: &mut trail,
+        trail,
         steps,
     };
     walk(alloc, &mut answers, config)

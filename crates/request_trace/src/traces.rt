@@ -13,6 +13,7 @@ ghost use Rattle.request_trace.specs.Tracing.{CountsModules};
 
 use crate::vertices::{Joined, join};
 use need_table::Needs;
+use package_lookup::Trail;
 use primitives::{Memory, Text};
 use std::alloc::{AllocError, Global};
 use std::marker::Model;
@@ -22,7 +23,7 @@ use tree_model::Path;
 use web_url::{Base, WebFault, web_of};
 
 /// What a trace holds: its modules, in a graph and in trace order, with the texts of their names at its base; the needs;
-/// and how many requests were followed.
+/// how many requests were followed; and where was looked.
 #[derive(Drop)]
 pub struct Trace {
     base: Base,
@@ -31,6 +32,7 @@ pub struct Trace {
     needs: Needs,
     spellings: Vec<Spelling>,
     requests: usize,
+    trail: Trail,
 }
 
 impl Model for Trace {
@@ -38,7 +40,7 @@ impl Model for Trace {
 
     ghost Value = { Traced };
 
-    ghost view = { λ t. traced_in t.graph t.needs t.spellings.items };
+    ghost view = { λ t. traced_in t.graph t.needs t.spellings.items t.trail.paths };
 
     ghost invariant = { λ t. IsTraceAt t.base t.names.items t.requests
         (gathered_in t.graph t.needs t.spellings.items) };
@@ -51,6 +53,7 @@ impl Trace {
         base: Base,
         tables: Tables,
         entries: usize,
+        trail: Trail,
     ) -> Result<Trace, Memory>
         requires whole { IsWhole (before_of tables) }
         requires named { AllNamedAt base tables.modules.entries }
@@ -58,6 +61,7 @@ impl Trace {
         requires counted { length tables.targets.items ≡ entries + module_requests (before_of tables).sources }
         ensures gathered { IfOk result (λ trace. trace.gathered ≡ before_of tables) }
         ensures entries { IfOk result (λ trace. length trace.links.roots ≡ entries) }
+        ensures footprint { IfOk result (λ trace. trace.footprint ≡ trail.paths) }
     {
         let Tables {
             modules,
@@ -76,7 +80,15 @@ impl Trace {
             needs,
             spellings,
             requests: targets.len(),
+            trail,
         })
+    }
+
+    /// The paths at which was looked for the trace, each once, in the order of first looks.
+    pub fn footprint(&self) -> &[Path]
+        ensures { result.now ≡ self.now.footprint }
+    {
+        self.trail.paths()
     }
 
     /// The modules as a graph: each has one slot, and each of their requests has the slot of the module to which it

@@ -37,6 +37,7 @@ refused_first before config tables r specifier want fault given = record {
   quiet = λ ne. refl;
   learns = learns_nothing before.looks (failed Gathered fault ≡ Err Memory)
       (IsAskedBy before (followed_by config tables r specifier want));
+  covered = λ finished covers. covers;
 }
 
 -- a check before Node is asked isn't passed

@@ -14,6 +14,7 @@ use Rattle.tree_spec.specs.Counts.{Rose}
 use Rattle.trace_spec.specs.declared.TraceFault.{TraceFault}
 use Rattle.trace_spec.specs.declared.TraceFault.TheVariants.{ReadFault, Memory, Limit}
 use Rattle.trace_spec.specs.Traces.{result_of, state_of}
+use Rattle.package_lookup.specs.Answered.{IsCovered}
 use Rattle.package_lookup.specs.Learning.{Learns}
 use Rattle.package_lookup.proofs.Learnings.{learns_then, learns_nothing, learns_as}
 use Rattle.trace_walk.specs.Meeting.{Told, Outside, IsTold, looks_of, IsAskedBy, Comes, Met}
@@ -92,6 +93,7 @@ met_then {X = X} before middle after part next value result first rest = record 
       (IsAskedBy before part) (IsAskedBy middle (next value)) (IsAskedBy before (and_ok part next)) (λ e. cc)
       (asked_first before part next) (λ path. asked_behind before middle part next value path first) first.learns
       rest.learns;
+  covered = λ finished covers. rest.covered finished (first.covered (λ e. cc) covers);
 }
 
 -- a part that has none
@@ -107,6 +109,7 @@ met_failed {X = X} {Y = Y} before after part next fault first = record {
   learns = learns_as before.looks after.looks (failed X fault ≡ Err Memory) (failed Y fault ≡ Err Memory)
       (IsAskedBy before part) (IsAskedBy before (and_ok part next)) (λ e. (let f : fault ≡ Memory = cc in ap Err f))
       (asked_first before part next) first.learns;
+  covered = λ finished covers. first.covered (λ e. finished (let f : fault ≡ Memory = cc in ap Err f)) covers;
 }
 
 -- memory was wanting behind a part
@@ -122,6 +125,7 @@ met_lost {X = X} {Y = Y} before after part next value first = record {
   learns = learns_as before.looks after.looks (succeeded X value ≡ Err Memory) (failed Y Memory ≡ Err Memory)
       (IsAskedBy before part) (IsAskedBy before (and_ok part next)) (λ e. refl) (asked_first before part next)
       first.learns;
+  covered = λ finished covers. absurd (finished refl);
 }
 
 -- nothing is asked
@@ -134,6 +138,7 @@ met_now before value result given = record {
   cause = λ e. absurd (given.no_look e);
   quiet = λ ne. refl;
   learns = learns_nothing before.looks (result ≡ Err Memory) (IsAskedBy before (answered value));
+  covered = λ finished covers. covers;
 }
 
 -- and so does want of memory before anything was asked
@@ -146,6 +151,7 @@ met_memory {X = X} before whole = record {
   cause = λ e. absurd (cc);
   quiet = λ ne. refl;
   learns = learns_nothing before.looks (failed X Memory ≡ Err Memory) (IsAskedBy before whole);
+  covered = λ finished covers. covers;
 }
 
 pub given_same : {X : Type 0} (value : X) → IsGiven (Ok value) (Ok value)
@@ -159,10 +165,11 @@ pub record Left {T Q : Type 0} {A : Q → Type 0} {X : Type 0} (before : Outside
   pub keeps : middle.keeps ≡ before.keeps
   pub quiet : middle.faults ≡ before.faults
   pub learns : Learns before.looks middle.looks ⊥ (IsAskedBy before whole)
+  pub covered : IsCovered before.looks → IsCovered middle.looks
   pub within : (path : List ℕ) → IsAskedBy middle rest path → IsAskedBy before whole path
 
 pub left_begins : {T Q : Type 0} {A : Q → Type 0} {X : Type 0} (before : Outside T Q A) (whole : Asking Q A (Result X TraceFault)) → Left before whole before whole
-left_begins before whole = record { same = λ told tells. refl; told = λ told tells. tells; keeps = refl; quiet = refl; learns = learns_nothing before.looks ⊥ (IsAskedBy before whole); within = λ path is. is }
+left_begins before whole = record { same = λ told tells. refl; told = λ told tells. tells; keeps = refl; quiet = refl; learns = learns_nothing before.looks ⊥ (IsAskedBy before whole); covered = λ covers. covers; within = λ path is. is }
 
 pub left_completes : {T Q : Type 0} {A : Q → Type 0} {X : Type 0} (before middle after : Outside T Q A) (whole rest : Asking Q A (Result X TraceFault)) (result : Result X TraceFault)
     → Left before whole middle rest → Met middle rest result after → Met before whole result after
@@ -175,6 +182,7 @@ left_completes before middle after whole rest result left met = record {
   quiet = λ ne. met.quiet ne ∙ left.quiet;
   learns = learns_then before.looks middle.looks after.looks ⊥ (result ≡ Err Memory) (IsAskedBy before whole)
       (IsAskedBy middle rest) (IsAskedBy before whole) (λ e. e) (λ path is. is) left.within left.learns met.learns;
+  covered = λ finished covers. met.covered finished (left.covered covers);
 }
 
 pub left_goes : {T Q : Type 0} {A : Q → Type 0} {X Y : Type 0} (before middle later : Outside T Q A) (whole : Asking Q A (Result Y TraceFault)) (part : Asking Q A (Result X TraceFault)) (next : X → Asking Q A (Result Y TraceFault)) (value : X)
@@ -190,6 +198,7 @@ left_goes {X = X} before middle later whole part next value left met = record {
       (λ path is. left.within path (asked_first middle part next path is)) left.learns
       (learns_as middle.looks later.looks (succeeded X value ≡ Err Memory) ⊥ (IsAskedBy middle part)
       (IsAskedBy middle part) (λ e. absurd (cc)) (λ path is. is) met.learns);
+  covered = λ covers. met.covered (λ e. cc) (left.covered covers);
   within = λ path is. left.within path (asked_behind middle later part next value path met is);
 }
 

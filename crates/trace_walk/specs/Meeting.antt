@@ -23,7 +23,7 @@ use Rattle.trace_spec.specs.declared.TraceFault.{TraceFault}
 use Rattle.trace_spec.specs.declared.TraceFault.TheVariants.{ReadFault, Memory}
 use Rattle.trace_spec.specs.Questions.{Question, Answer}
 use Rattle.trace_spec.specs.Traces.{result_of, state_of}
-use Rattle.package_lookup.specs.Answered.{State}
+use Rattle.package_lookup.specs.Answered.{State, IsCovered}
 use Rattle.package_lookup.specs.Learning.{Learns}
 
 -- the references to what is outside, what that holds where it is told, and how many writes failed
@@ -77,6 +77,7 @@ pub record Met {T Q X : Type 0} {A : Q → Type 0} (before : Outside T Q A) (ask
   pub cause : result ≡ Err ReadFault → Rose before.faults after.faults
   pub quiet : result ≢ Err ReadFault → after.faults ≡ before.faults
   pub learns : Learns before.looks after.looks (result ≡ Err Memory) (IsAskedBy before asking)
+  pub covered : result ≢ Err Memory → IsCovered before.looks → IsCovered after.looks
 
 abbrev pub AnswererState : Type 1
 AnswererState = Outside Trail Question Answer

@@ -20,7 +20,7 @@ use Rattle.tree_spec.specs.declared.Entry.TheVariants.{Stored, Directory}
 use Rattle.url_spec.proofs.PathDecisions.{test_by_path}
 use Rattle.url_spec.specs.PathTests.{is_path}
 use Rattle.vendor_spec.specs.Laws.{CopiedIsCopy, CopiedLeavesRest}
-use Rattle.vendor_spec.specs.Vendored.{Pair, IsBelow, Copied, nothing, one_more, IsPlan, IsApart}
+use Rattle.vendor_spec.specs.Vendored.{Pair, IsBelow, Written, goals, nothing, one_more, IsPlan, IsApart}
 
 -- ---- texts of paths
 
@@ -40,12 +40,25 @@ begins_so path is = by path (test_by_path path is)
 same_rest : (to one other : List ℕ) → to ++ one ≡ to ++ other → one ≡ other
 same_rest to one other e = sym (drop-append_seam to one) ∙ (ap (drop (length to)) e ∙ drop-append_seam to other)
 
+-- ---- the goals
+
+goals_behind : (to : List ℕ) (file pair : Pair) (more rest : List Pair) → (file ∷ more) ≡ goals to (pair ∷ rest)
+    → more ≡ goals to rest
+goals_behind to file pair more rest e = cc
+
+placed_at : (to : List ℕ) (tree middle : Tree) (file pair : Pair) (more rest : List Pair)
+    → (file ∷ more) ≡ goals to (pair ∷ rest) → Places tree file.0 (Stored file.1) middle
+    → Places tree (to ++ pair.0) (Stored pair.1) middle
+placed_at to tree middle file pair more rest e placed =
+    let same : file ≡ (to ++ pair.0, pair.1) = cc in
+    subst (λ (f : Pair). Places tree f.0 (Stored f.1) middle) same placed
+
 module _ (to : List ℕ) (to_is : IsPath to) (to_deep : to ≢ codes "/") where
   some_to : to ≢ []
   some_to = not_empty to_is.depth to to_is.segments
 
   -- below the folder paths stand above each other as without it
-  above_behind : (folder path : List ℕ) → IsPath folder → IsPath path → IsAbove (to ++ folder) (to ++ path) → IsAbove folder path
+  pub above_behind : (folder path : List ℕ) → IsPath folder → IsPath path → IsAbove (to ++ folder) (to ++ path) → IsAbove folder path
   above_behind folder path is is_path above =
       let start = begins_so folder is in
       let top : to ++ folder ≢ codes "/" = λ e. more_than_root to start.rest some_to (ap (λ f. to ++ f) (sym start.is) ∙ e) in
@@ -53,18 +66,18 @@ module _ (to : List ℕ) (to_is : IsPath to) (to_deep : to ≢ codes "/") where
       below_by_text folder longer.more path (not_empty is.depth folder is.segments) is_path
       (same_rest to path (folder ++ 47 ∷ longer.more) (longer.is ∙ append_assoc to folder (47 ∷ longer.more)))
 
-  to_above : (path : List ℕ) → IsPath path → IsPath (to ++ path) → IsAbove to (to ++ path)
+  pub to_above : (path : List ℕ) → IsPath path → IsPath (to ++ path) → IsAbove to (to ++ path)
   to_above path is goal =
       let start = begins_so path is in
       below_by_text to start.rest (to ++ path) some_to goal (ap (λ p. to ++ p) start.is)
 
   module _ (old : Tree) (is_old : IsTree old) (free : get old to ≡ None) where
-    record IsDone (tree : Tree) (done : List Pair) : Type 0 where
-      is_tree : IsTree tree
-      sources : (pair : Pair) → Contains done pair → get old pair.0 ≡ Some (Stored pair.1)
-      files : (pair : Pair) → Contains done pair → get tree (to ++ pair.0) ≡ Some (Stored pair.1)
-      stored : (path bytes : List ℕ) → IsPath path → get tree (to ++ path) ≡ Some (Stored bytes) → Contains done (path, bytes)
-      folders :
+    pub record IsDone (tree : Tree) (done : List Pair) : Type 0 where
+      pub is_tree : IsTree tree
+      pub sources : (pair : Pair) → Contains done pair → get old pair.0 ≡ Some (Stored pair.1)
+      pub files : (pair : Pair) → Contains done pair → get tree (to ++ pair.0) ≡ Some (Stored pair.1)
+      pub stored : (path bytes : List ℕ) → IsPath path → get tree (to ++ path) ≡ Some (Stored bytes) → Contains done (path, bytes)
+      pub folders :
           (path : List ℕ) → IsPath path → get tree (to ++ path) ≡ Some Directory
           → (pair : Pair) × Contains done pair × IsAbove path pair.0
 
@@ -75,7 +88,7 @@ module _ (to : List ℕ) (to_is : IsPath to) (to_deep : to ≢ codes "/") where
         let f : None ≡ Some Directory = sym free ∙ folder in
         absurd (cc)
 
-    at_start : IsDone old []
+    pub at_start : IsDone old []
     at_start = record {
       is_tree = is_old;
       sources = λ pair held. absurd (contains_none pair held);
@@ -99,8 +112,8 @@ module _ (to : List ℕ) (to_is : IsPath to) (to_deep : to ≢ codes "/") where
           absurd (cc)
 
       -- what stands at another path was there, or is a folder above the file
-      record Was (path : List ℕ) (entry : Entry) : Type 0 where
-        by : (get tree path ≡ Some entry) ⊎ (IsAbove path (to ++ pair.0) × (entry ≡ Directory))
+      pub record Was (path : List ℕ) (entry : Entry) : Type 0 where
+        pub by : (get tree path ≡ Some entry) ⊎ (IsAbove path (to ++ pair.0) × (entry ≡ Directory))
 
       was_by : (path : List ℕ) (entry : Entry) → path ≢ to ++ pair.0 → get middle path ≡ Some entry
           → (IsAbove path (to ++ pair.0) → ⊥) → (found : Option Entry) → get tree path ≡ found → Was path entry
@@ -110,7 +123,7 @@ module _ (to : List ℕ) (to_is : IsPath to) (to_deep : to ≢ codes "/") where
           let same : Some before ≡ Some entry = sym (placed.stays path before other f) ∙ e in
           record { by = inl (f ∙ same) }
 
-      was : (path : List ℕ) (entry : Entry) → path ≢ to ++ pair.0 → get middle path ≡ Some entry → Was path entry
+      pub was : (path : List ℕ) (entry : Entry) → path ≢ to ++ pair.0 → get middle path ≡ Some entry → Was path entry
       was path entry other e =
           elim (above_or_not path (to ++ pair.0) goal) [
             | inl above ↦ (let same : Some Directory ≡ Some entry = sym (placed.above path above) ∙ e in
@@ -160,7 +173,7 @@ module _ (to : List ℕ) (to_is : IsPath to) (to_deep : to ≢ codes "/") where
           let f : Some Directory ≡ Some (Stored pair.1) = sym e ∙ (ap (get middle) same ∙ placed.here) in absurd (cc)
       folder_at path is e (inr apart_from) = folder_by path is (was (to ++ path) Directory apart_from e)
 
-      next : IsDone middle (done ++ pair ∷ [])
+      pub next : IsDone middle (done ++ pair ∷ [])
       next = record {
         is_tree = placed_tree tree (to ++ pair.0) (Stored pair.1) middle is_done.is_tree goal no_folder placed;
         sources = λ other held. elim (Contains-append_cases done (pair ∷ []) other held) [
@@ -182,14 +195,19 @@ module _ (to : List ℕ) (to_is : IsPath to) (to_deep : to ≢ codes "/") where
       }
 
     copied : (paths : List (List ℕ)) (pairs : List Pair) → IsPlan old to paths pairs → (tree after : Tree)
-        (done rest : List Pair) → Copied to tree rest after → pairs ≡ done ++ rest → IsDone tree done → IsDone after pairs
-    copied paths pairs plan _ _ done _ (nothing tree) e is_done =
+        (done rest files : List Pair) → Written tree files after → files ≡ goals to rest → pairs ≡ done ++ rest
+        → IsDone tree done → IsDone after pairs
+    copied paths pairs plan _ _ done [] _ (nothing tree) same e is_done =
         subst (IsDone tree) (sym (append-nil done) ∙ sym e) is_done
-    copied paths pairs plan _ _ done _ (one_more tree middle after pair more placed later) e is_done =
+    copied paths pairs plan _ _ done (pair ∷ rest) _ (nothing tree) same e is_done = absurd (cc)
+    copied paths pairs plan _ _ done [] _ (one_more tree middle after file more placed later) same e is_done = absurd (cc)
+    copied paths pairs plan _ _ done (pair ∷ rest) _ (one_more tree middle after file more placed later) same e is_done =
         let held : Contains pairs pair =
-        subst (λ ps. Contains ps pair) (sym e) (Contains-append_right done (pair ∷ more) pair (contains_here pair more)) in
-        copied paths pairs plan middle after (done ++ pair ∷ []) more later (e ∙ sym (append_assoc done (pair ∷ []) more))
-        (next tree middle done pair (plan.files pair held) (plan.goals pair held) placed is_done)
+        subst (λ ps. Contains ps pair) (sym e) (Contains-append_right done (pair ∷ rest) pair (contains_here pair rest)) in
+        copied paths pairs plan middle after (done ++ pair ∷ []) rest more later (goals_behind to file pair more rest same)
+        (e ∙ sym (append_assoc done (pair ∷ []) rest))
+        (next tree middle done pair (plan.files pair held) (plan.goals pair held)
+        (placed_at to tree middle file pair more rest same placed) is_done)
 
 -- ---- the tree below the folder
 
@@ -284,7 +302,7 @@ module _ (old after below : Tree) (to : List ℕ) (to_is : IsPath to) (to_deep :
 pub copied_is_copy : CopiedIsCopy
 copied_is_copy old after below to paths pairs is_old to_is to_deep free plan writes is_below =
     let done : IsDone to to_is to_deep old is_old free after pairs =
-    copied to to_is to_deep old is_old free paths pairs plan old after [] pairs writes refl
+    copied to to_is to_deep old is_old free paths pairs plan old after [] pairs (goals to pairs) writes refl refl
     (at_start to to_is to_deep old is_old free) in
     record {
       is_tree = record {
@@ -301,7 +319,7 @@ copied_is_copy old after below to paths pairs is_old to_is to_deep free plan wri
 -- ---- what isn't touched
 
 -- of two that stand above one path, one is above the other
-comparable : (some other path : List ℕ) → IsAbove some path → IsAbove other path
+pub comparable : (some other path : List ℕ) → IsAbove some path → IsAbove other path
     → (some ≡ other) ⊎ (IsAbove some other ⊎ IsAbove other some)
 comparable _ other _ (parent_of some path p) above =
     elim (above_by_parent other some path p above) [
@@ -337,22 +355,26 @@ stays_once tree middle to path goal bytes apart_from above placed =
     stays_by tree middle path (get tree path) refl (λ old e. placed.stays path old other e)
     (λ e. placed.no_more path other (apart_from_goal to path goal apart_from above) e)
 
-stays_through : (to path : List ℕ) → IsApart to path → (tree after : Tree) (rest : List Pair)
-    → Copied to tree rest after → ((pair : Pair) → Contains rest pair → IsAbove to (to ++ pair.0))
+stays_through : (to path : List ℕ) → IsApart to path → (tree after : Tree) (rest files : List Pair)
+    → Written tree files after → files ≡ goals to rest → ((pair : Pair) → Contains rest pair → IsAbove to (to ++ pair.0))
     → get after path ≡ get tree path
-stays_through to path apart_from _ _ _ (nothing tree) goals = refl
-stays_through to path apart_from _ _ _ (one_more tree middle after pair more placed later) goals =
-    stays_through to path apart_from middle after more later (λ other held. goals other (contains_there other pair more held))
-    ∙ stays_once tree middle to path (to ++ pair.0) pair.1 apart_from (goals pair (contains_here pair more)) placed
+stays_through to path apart_from _ _ [] _ (nothing tree) same above = refl
+stays_through to path apart_from _ _ (pair ∷ rest) _ (nothing tree) same above = absurd (cc)
+stays_through to path apart_from _ _ [] _ (one_more tree middle after file more placed later) same above = absurd (cc)
+stays_through to path apart_from _ _ (pair ∷ rest) _ (one_more tree middle after file more placed later) same above =
+    stays_through to path apart_from middle after rest more later (goals_behind to file pair more rest same)
+    (λ other held. above other (contains_there other pair rest held))
+    ∙ stays_once tree middle to path (to ++ pair.0) pair.1 apart_from (above pair (contains_here pair rest))
+    (placed_at to tree middle file pair more rest same placed)
 
 pub copied_leaves_rest : CopiedLeavesRest
 copied_leaves_rest old after to paths pairs is_old to_is to_deep free plan writes =
     let done : IsDone to to_is to_deep old is_old free after pairs =
-    copied to to_is to_deep old is_old free paths pairs plan old after [] pairs writes refl
+    copied to to_is to_deep old is_old free paths pairs plan old after [] pairs (goals to pairs) writes refl refl
     (at_start to to_is to_deep old is_old free) in
     record {
       is_tree = done.is_tree;
-      stays = λ path apart_from. stays_through to path apart_from old after pairs writes
+      stays = λ path apart_from. stays_through to path apart_from old after pairs (goals to pairs) writes refl
           (λ pair held. to_above to to_is to_deep pair.0 (is_old.paths pair.0 (Stored pair.1) (plan.files pair held))
           (plan.goals pair held));
     }

@@ -1,2 +1,3 @@
 pub mod Vendored
+pub mod Goals
 pub mod Laws

@@ -1,4 +1,5 @@
--- A file that is placed is put, with the folders above it.
+-- A file that is placed is put, with the folders above it; and where no file stands above it, a file that is put is
+-- placed.
 use Rattle.std.proofs.Common.{◌≡◌, ◌≢◌, ◌⊎◌, ℕ, List, Some, None, refl, sym, ap, ◌∙◌, subst, inl, inr}
 use Rattle.std.specs.FinMap.{get, insert}
 use Rattle.std.specs.Prelude.{drop}
@@ -66,3 +67,28 @@ pub placed_is_put : PlacedIsPut
 placed_is_put tree after path bytes is placed =
     same_tree after (with_file tree path bytes)
     (λ other. same_at tree after path bytes is placed other (text_same_or_not other path) (above_or_not other path is) (found_or_not tree other))
+
+-- no file stands above it
+module _ (tree : Tree) (path bytes : List ℕ) (is : IsPath path)
+    (clear : (folder : List ℕ) (old : Entry) → IsAbove folder path → get tree folder ≡ Some old → old ≡ Directory) where
+  abbrev climbed : List (List ℕ)
+  climbed = drop 1 (folders_from path)
+
+  stays_by : (other : List ℕ) (old : Entry) → get tree other ≡ Some old → IsAbove other path ⊎ (IsAbove other path → ⊥)
+      → get (with_folders tree climbed) other ≡ Some old
+  stays_by other old was (inl up) =
+      above_made tree path other (folders_from path) (folders_climb path is) up ∙ ap Some (sym (clear other old up was))
+  stays_by other old was (inr m) = others_kept tree path other (folders_from path) (folders_climb path is) m ∙ was
+
+  pub put_is_placed : Places tree path (Stored bytes) (with_file tree path bytes)
+  put_is_placed = record {
+    here = get_here (with_folders tree climbed) path (Stored bytes);
+    above = λ folder up.
+        get_other (with_folders tree climbed) path (Stored bytes) folder (above_other folder path up)
+        ∙ above_made tree path folder (folders_from path) (folders_climb path is) up;
+    stays = λ other old n was.
+        get_other (with_folders tree climbed) path (Stored bytes) other n ∙ stays_by other old was (above_or_not other path is);
+    no_more = λ other n m none.
+        get_other (with_folders tree climbed) path (Stored bytes) other n
+        ∙ (others_kept tree path other (folders_from path) (folders_climb path is) m ∙ none);
+  }

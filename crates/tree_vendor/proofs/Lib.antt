@@ -1,0 +1,4 @@
+mod Elements
+pub mod GoalMaps
+pub mod Writes
+pub mod PlannedFiles
