@@ -8,6 +8,7 @@
 --     Grows before after           laid looks are as before, what was kept is kept, and nothing is kept under a laid look
 --     IsSameKnown before after     all that is known is as before
 --     Puts old path look new       one more look is there, in the place of one that was
+--     Follows old path other new   at this path there is what another has there, and elsewhere what was
 --     SomeSights                   something can stand at each path so that this is so
 use Rattle.std.specs.Prelude.{◌≡◌, ℕ, List, Option, Some, None, bytes_eq, if◌then◌else◌}
 use Rattle.std.specs.FinMap.{get}
@@ -57,6 +58,10 @@ pub record IsSameKnown (before after : Known) : Type 0 where
 abbrev pub Puts : Over → List ℕ → Look → Over → Type 0
 Puts old path look new =
     (other : List ℕ) → over_at new other ≡ (if bytes_eq path other then Some look else over_at old other)
+
+abbrev pub Follows : Over → List ℕ → Over → Over → Type 0
+Follows old path other new =
+    (at : List ℕ) → over_at new at ≡ (if bytes_eq path at then over_at other path else over_at old at)
 
 abbrev pub SomeSights : Type 0
 SomeSights = (tree : Tree) (known : Known) → (sights : Sights) × Sees tree known sights

@@ -1,6 +1,6 @@
-ghost use Rattle.std.specs.Prelude.{◌≡◌, List, ℕ, None, Some, IfOk, OnOk, OnErr, bytes_eq, option_copied};
+ghost use Rattle.std.specs.Prelude.{◌≡◌, List, ℕ, None, Some, IfOk, OnOk, OnErr, bytes_eq, option_copied, if◌then◌else◌};
 ghost use Rattle.tree_spec.specs.declared.Look.{Look};
-ghost use Rattle.package_lookup.specs.Looked.{over_at, Puts};
+ghost use Rattle.package_lookup.specs.Looked.{over_at, Puts, Follows};
 
 use crate::held::Held;
 use primitives::Memory;
@@ -42,6 +42,20 @@ impl Over {
         Ok(())
     }
 
+    /// Lays at a path what another lays there, with all bytes and records shared, or nothing where that lays nothing.
+    pub fn follow(&mut self, alloc: Global, path: &Path, other: &Over) -> Result<(), Memory>
+        ensures followed { OnOk result (Follows self.old path.now other.now self.new) }
+        ensures same { OnErr result ((at : List ℕ) → over_at self.new at ≡ over_at self.old at) }
+    {
+        match other.find(path) {
+            Some(held) => self.put(path.copy(alloc)?, held.copy()?),
+            None => {
+                self.remove(path);
+                Ok(())
+            }
+        }
+    }
+
     /// An equal one, with all bytes and records shared.
     pub fn copy(&self, alloc: Global) -> Result<Over, Memory>
         ensures { IfOk result (λ copy. (path : List ℕ) → over_at copy path ≡ over_at self.now path) }
@@ -51,6 +65,12 @@ impl Over {
             copy.put(path.copy(alloc)?, held.copy()?)?;
         }
         Ok(copy)
+    }
+
+    fn remove(&mut self, path: &Path)
+        ensures { (at : List ℕ) → over_at self.new at ≡ (if bytes_eq path.now at then None else over_at self.old at) }
+    {
+        let _ = self.looks.remove(path);
     }
 
     /// The look at a path.

@@ -1,5 +1,5 @@
 //! The walk of a trace: the requests of a page and of what they lead to are followed one after another, until one is
-//! refused. It asks an answerer what a module asks for and where a request leads, and knows no folder.
+//! refused. It asks an answerer what a module asks for and where a request leads.
 #![tactic(auto)]
 
 mod answerer;
