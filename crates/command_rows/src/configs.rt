@@ -108,6 +108,10 @@ fn after(alloc: Global, row: &str, found: Option<Config>, said: &mut Said) -> Op
             push_bracketed(path.as_str(), said);
             None
         }
+        Ok(Wanted::Vendor { path }) => {
+            push_named("vendor ", &path, said);
+            None
+        }
         Err(fault) => {
             push_words_fault(&fault, said);
             None

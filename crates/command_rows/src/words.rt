@@ -60,8 +60,8 @@ fn push_measure(number: u64, said: &mut Said) {
     said.push_number(number);
 }
 
-fn push_why(path: &str, said: &mut Said) {
-    said.push("why");
+fn push_path(command: &str, path: &str, said: &mut Said) {
+    said.push(command);
     push_bracketed(path, said);
 }
 
@@ -74,7 +74,8 @@ fn push_command(command: &Command<'_>, said: &mut Said) {
         Command::List => said.push("list"),
         Command::Inject => said.push("inject"),
         Command::Session => said.push("session"),
-        Command::Why(path) => push_why(*path, said),
+        Command::Why(path) => push_path("why", *path, said),
+        Command::Vendor(path) => push_path("vendor", *path, said),
         Command::Measure(number) => push_measure(*number, said),
     }
 }

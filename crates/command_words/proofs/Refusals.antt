@@ -6,12 +6,13 @@ use Rattle.config_spec.specs.declared.ConfigFault.TheVariants as config
 use Rattle.config_spec.specs.declared.Command.TheVariants.{Link}
 use Rattle.config_spec.specs.Words.{RefusesOptions, RefusesWords, SetsBase, SetsPage}
 use Rattle.config_spec.specs.Words.RefusesOptions.{bad_base, bad_path, bad_conditions}
-use Rattle.config_spec.specs.Words.RefusesWords.{bad_option as words_bad_option, bad_file as words_bad_file}
+use Rattle.config_spec.specs.Words.RefusesWords.{bad_option as words_bad_option, bad_file as words_bad_file, bad_folder as words_bad_folder}
+use Rattle.project_spec.specs.ProjectFiles.{IsPagePath}
 use Rattle.tree_spec.specs.Paths.{IsPath}
-use Rattle.words_spec.specs.PlainWords.{Asked, Asks, LinkOptions, linking, explaining}
+use Rattle.words_spec.specs.PlainWords.{Asked, Asks, LinkOptions, linking, explaining, vendoring}
 use Rattle.command_words.specs.declared.fault.WordsFault.{WordsFault}
 use Rattle.command_words.specs.declared.fault.WordsFault.TheVariants.{Told, NotPlain, Refused, Memory}
-use Rattle.command_words.specs.Faults.{RefusesAs, IsBadBase, IsBadPath, IsBadConditions, RefusesOrder, bad_option, bad_file, Explains}
+use Rattle.command_words.specs.Faults.{RefusesAs, IsBadBase, IsBadPath, IsBadConditions, RefusesOrder, bad_option, bad_file, bad_folder, Explains}
 
 -- ---- the options, in their order
 
@@ -47,11 +48,18 @@ path_refused path NotPlain none refuses = refuses
 path_refused path (Refused fault) none refuses = subst (RefusesOrder (explaining path)) (sym refuses) (bad_file path refl none)
 path_refused path Memory none refuses = tt
 
+pub folder_refused : (path : List ℕ) (fault : WordsFault) → (IsPagePath path → ⊥) → RefusesAs (λ other. other ≡ config.BadPath path) fault → RefusesAs (RefusesOrder (vendoring path)) fault
+folder_refused path (Told told) none refuses = refuses
+folder_refused path NotPlain none refuses = refuses
+folder_refused path (Refused fault) none refuses = subst (RefusesOrder (vendoring path)) (sym refuses) (bad_folder path refl none)
+folder_refused path Memory none refuses = tt
+
 -- ---- words
 
 of_asked : (texts : List (List ℕ)) (asked : Asked) (fault : ConfigFault) → Asks texts asked → RefusesOrder asked fault → RefusesWords texts fault
 of_asked texts asked fault asks (bad_option command other is refuses) = words_bad_option asked command other asks is refuses
 of_asked texts asked fault asks (bad_file path same none) = words_bad_file path (subst (Asks texts) same asks) none
+of_asked texts asked fault asks (bad_folder path same none) = words_bad_folder path (subst (Asks texts) same asks) none
 
 pub words_refused : (texts : List (List ℕ)) (asked : Asked) (fault : WordsFault) → Asks texts asked → RefusesAs (RefusesOrder asked) fault → Explains texts fault
 words_refused texts asked (Told told) asks refuses = absurd refuses

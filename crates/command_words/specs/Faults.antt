@@ -12,7 +12,7 @@ use Rattle.config_spec.specs.declared.ConfigFault.{ConfigFault}
 use Rattle.config_spec.specs.declared.ConfigFault.TheVariants as config
 use Rattle.project_spec.specs.ProjectFiles.{IsPagePath}
 use Rattle.config_spec.specs.Words.{IsPlain, RefusesOptions, RefusesWords, command_of, options_of}
-use Rattle.words_spec.specs.PlainWords.{Asked, explaining}
+use Rattle.words_spec.specs.PlainWords.{Asked, explaining, vendoring}
 use Rattle.command_words.specs.declared.fault.WordsFault.{WordsFault}
 use Rattle.command_words.specs.declared.fault.WordsFault.TheVariants.{Told, NotPlain, Refused, Memory}
 
@@ -41,13 +41,16 @@ pub record IsBadConditions (given : Option (List ℕ)) (fault : ConfigFault) : T
   pub bad : AreConditions (names_in text) → ⊥
   pub is : fault ≡ config.BadConditions text
 
--- own: an option whose text is refused, or a file that is asked for by what isn't a path
+-- own: an option whose text is refused, or a file that is asked for by what isn't a path, or a folder of copies by that
+-- or by the root
 pub data RefusesOrder (asked : Asked) : ConfigFault → Type 0 where
   bad_option :
       (command : Command) (fault : ConfigFault) → command_of asked ≡ Some command
       → RefusesOptions (options_of asked) fault → RefusesOrder asked fault
   bad_file :
       (path : List ℕ) → asked ≡ explaining path → (IsPath path → ⊥) → RefusesOrder asked (config.BadPath path)
+  bad_folder :
+      (path : List ℕ) → asked ≡ vendoring path → (IsPagePath path → ⊥) → RefusesOrder asked (config.BadPath path)
 
 -- own: words that aren't plain are told of or not; plain words are refused, or memory is wanted
 abbrev pub Explains : List (List ℕ) → WordsFault → Type 0

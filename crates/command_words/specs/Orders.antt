@@ -4,16 +4,20 @@
 --     IsOrder words order        it is what these words ask for
 --     ExplainsAt path asked      it is asked why the file at this path is loaded
 --     AsksWhyAt words path       so do these words
---     IsWantedOf wanted asked    what is wanted is what is asked for: an order, why a file is loaded, a measure or a
---                                session
+--     CopiesTo path asked        it is asked to copy what the map needs to this path
+--     VendorsAt words path       so do these words
+--     IsWantedOf wanted asked    what is wanted is what is asked for: an order, why a file is loaded, copies, a measure
+--                                or a session
 --     IsWanted words wanted      it is what these words ask for
 use Rattle.std.specs.Prelude.{◌≡◌, ℕ, List, Some, map, string_bytes}
 use Rattle.tree_spec.specs.Paths.{IsPath}
 use Rattle.config_spec.specs.declared.Command.{Command}
 use Rattle.config_spec.specs.declared.Command.TheVariants as command
-use Rattle.config_spec.specs.Words.{Settings, Sets, no_settings, command_of, options_of, AsksWhy, Measures, IsSession}
+use Rattle.config_spec.specs.Words.{Settings, Sets, no_settings, command_of, options_of, AsksWhy, VendorsTo, Measures}
+use Rattle.config_spec.specs.Words.{IsSession}
+use Rattle.project_spec.specs.ProjectFiles.{IsPagePath}
 use Rattle.words_spec.specs.PlainWords.{Asked, Asks, LinkOptions, linking, unlinking, refreshing, checking, listing}
-use Rattle.words_spec.specs.PlainWords.{injecting, editing, explaining, measuring}
+use Rattle.words_spec.specs.PlainWords.{injecting, editing, explaining, vendoring, measuring}
 use Rattle.command_words.specs.declared.order.Order.{Order}
 use Rattle.command_words.specs.declared.order.Order.TheVariants.{Link, Unlink, Refresh, Check, Inject}
 use Rattle.command_words.specs.declared.order.Order.TheVariants as order
@@ -65,14 +69,25 @@ pub record AsksWhyAt (words : List (List ℕ)) (path : List ℕ) : Type 0 where
   pub asks : AsksWhy words path
   pub is_path : IsPath path
 
+-- own: copies are asked for by a path other than the root's
+pub record CopiesTo (path : List ℕ) (asked : Asked) : Type 0 where
+  pub is : asked ≡ vendoring path
+  pub is_path : IsPagePath path
+
+pub record VendorsAt (words : List (List ℕ)) (path : List ℕ) : Type 0 where
+  pub asks : VendorsTo words path
+  pub is_path : IsPagePath path
+
 abbrev pub IsWantedOf : Wanted → Asked → Type 0
 IsWantedOf (wanted.Order order) asked = IsOrderOf order asked
 IsWantedOf (wanted.Why path) asked = ExplainsAt path asked
+IsWantedOf (wanted.Vendor path) asked = CopiesTo path asked
 IsWantedOf (wanted.Measure number) asked = asked ≡ measuring number
 IsWantedOf wanted.Session asked = asked ≡ editing
 
 abbrev pub IsWanted : List (List ℕ) → Wanted → Type 0
 IsWanted words (wanted.Order order) = IsOrder words order
 IsWanted words (wanted.Why path) = AsksWhyAt words path
+IsWanted words (wanted.Vendor path) = VendorsAt words path
 IsWanted words (wanted.Measure number) = Measures words number
 IsWanted words wanted.Session = IsSession words

@@ -1,6 +1,6 @@
 ghost use Rattle.std.specs.Prelude.{◌≡◌, MatchResult, Some, map, string_bytes};
 ghost use Rattle.words_read.specs.Shown.{options_of, shown};
-ghost use Rattle.words_spec.specs.PlainWords.{linking, explaining};
+ghost use Rattle.words_spec.specs.PlainWords.{linking, explaining, vendoring};
 ghost use Rattle.command_words.specs.Faults.{Explains, RefusesAs, RefusesOrder};
 ghost use Rattle.command_words.specs.Orders.{IsOrderOf, IsWanted, IsWantedOf, command_ordered};
 
@@ -56,6 +56,8 @@ pub enum Wanted<'a> {
     Order(Order<'a>),
     /// The shortest chain of requests that leads from the page to the file at this path.
     Why { path: Path },
+    /// Copies of the files that the map needs, in a folder of their own at this path, which isn't the root.
+    Vendor { path: Path },
     /// The map of a stated tree of so many packages.
     Measure { number: u64 },
     /// A session on the project of a folder.
@@ -87,6 +89,7 @@ fn order_parsed<'a>(alloc: Global, parsed: Parsed<'a>) -> Result<Wanted<'a>, Wor
         Parsed::List => Ok(Wanted::Order(Order::List)),
         Parsed::Session => Ok(Wanted::Session),
         Parsed::Why(text) => why_wanted(alloc, text),
+        Parsed::Vendor(text) => vendor_wanted(alloc, text),
         Parsed::Measure(number) => Ok(Wanted::Measure { number }),
     }
 }
@@ -112,6 +115,20 @@ fn why_wanted<'a>(alloc: Global, text: &str) -> Result<Wanted<'a>, WordsFault>
 {
     match Path::parse(alloc, text) {
         Ok(path) => Ok(Wanted::Why { path }),
+        Err(PathFault::Memory) => Err(WordsFault::Memory),
+        Err(PathFault::BadPath) => Err(bad_path(alloc, text)),
+    }
+}
+
+fn vendor_wanted<'a>(alloc: Global, text: &str) -> Result<Wanted<'a>, WordsFault>
+    ensures { MatchResult result (λ wanted. IsWantedOf wanted (vendoring text.now))
+        (RefusesAs (RefusesOrder (vendoring text.now))) }
+{
+    if text == "/" {
+        return Err(bad_path(alloc, text));
+    }
+    match Path::parse(alloc, text) {
+        Ok(path) => Ok(Wanted::Vendor { path }),
         Err(PathFault::Memory) => Err(WordsFault::Memory),
         Err(PathFault::BadPath) => Err(bad_path(alloc, text)),
     }

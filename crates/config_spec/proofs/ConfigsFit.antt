@@ -20,7 +20,7 @@ use Rattle.url_spec.specs.Bases.{IsBase}
 use Rattle.node_spec.specs.Conditions.{AreConditions}
 use Rattle.trace_spec.specs.Modules.{Config}
 use Rattle.words_spec.specs.PlainWords.{Asked, Asks, LinkOptions, no_options, linking, unlinking, refreshing, checking}
-use Rattle.words_spec.specs.PlainWords.{listing, injecting, editing, explaining, measuring}
+use Rattle.words_spec.specs.PlainWords.{listing, injecting, editing, explaining, vendoring, measuring}
 use Rattle.project_spec.proofs.ReadBack.{read_projects}
 use Rattle.project_spec.specs.ProjectFiles as project
 use Rattle.project_spec.specs.ProjectFiles.{IsPagePath, IsProject, ReadsProject}
@@ -322,6 +322,8 @@ comes_in editing settings found result sets fits is =
     taken_comes editing settings Ok found result sets fits (same_fits editing result tt) is
 comes_in (explaining path) settings found result sets fits is =
     taken_comes (explaining path) settings Ok found result sets fits (same_fits (explaining path) result tt) is
+comes_in (vendoring path) settings found result sets fits is =
+    taken_comes (vendoring path) settings Ok found result sets fits (same_fits (vendoring path) result tt) is
 comes_in (measuring number) settings found result sets fits is =
     taken_comes (measuring number) settings Ok found result sets fits (same_fits (measuring number) result tt) is
 

@@ -15,7 +15,7 @@ use Rattle.tree_spec.specs.declared.LimitName.TheVariants.{Entries}
 use Rattle.tree_spec.proofs.FootprintSets.{distinct_none}
 use Rattle.trace_spec.specs.Modules.{Config}
 use Rattle.words_spec.specs.PlainWords.{Asked, Asks, LinkOptions, linking, unlinking, refreshing, checking}
-use Rattle.words_spec.specs.PlainWords.{listing, injecting, editing, explaining, measuring}
+use Rattle.words_spec.specs.PlainWords.{listing, injecting, editing, explaining, vendoring, measuring}
 use Rattle.project_spec.specs.ProjectFiles as project
 use Rattle.project_spec.specs.ProjectFiles.{BadFile, Gives, PassesLimit, ReadsProject, reads_project, many_entries}
 use Rattle.project_spec.specs.ProjectFiles.{no_project, no_json, deep_json}
@@ -177,6 +177,8 @@ refuses_in editing settings found fault sets is =
     there_refuses editing Ok found fault (λ options others e. absurd (cc)) (never_refuses editing fault) is
 refuses_in (explaining path) settings found fault sets is =
     there_refuses (explaining path) Ok found fault (λ options others e. absurd (cc)) (never_refuses (explaining path) fault) is
+refuses_in (vendoring path) settings found fault sets is =
+    there_refuses (vendoring path) Ok found fault (λ options others e. absurd (cc)) (never_refuses (vendoring path) fault) is
 refuses_in (measuring number) settings found fault sets is =
     there_refuses (measuring number) Ok found fault (λ options others e. absurd (cc))
     (never_refuses (measuring number) fault) is

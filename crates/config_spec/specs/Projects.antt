@@ -33,7 +33,7 @@ use Rattle.project_spec.specs.ProjectFiles as project
 use Rattle.project_spec.specs.ProjectFiles.{IsProject, ReadsProject}
 use Rattle.trace_spec.specs.Modules.{Config}
 use Rattle.words_spec.specs.PlainWords.{Asked, Asks, LinkOptions, linking, unlinking, refreshing, checking}
-use Rattle.words_spec.specs.PlainWords.{listing, injecting, editing, explaining, measuring}
+use Rattle.words_spec.specs.PlainWords.{listing, injecting, editing, explaining, vendoring, measuring}
 use Rattle.config_spec.specs.declared.Command.{Command}
 use Rattle.config_spec.specs.declared.ProjectFault.{ProjectFault}
 use Rattle.config_spec.specs.declared.ProjectFault.TheVariants.{Absent, TooLarge, NotProject, Above}
@@ -137,6 +137,7 @@ config_in listing settings found = if_there found Ok
 config_in injecting settings found = if_there found Ok
 config_in editing settings found = if_there found Ok
 config_in (explaining path) settings found = if_there found Ok
+config_in (vendoring path) settings found = if_there found Ok
 config_in (measuring number) settings found = if_there found Ok
 
 abbrev pub config_by : Asked → Settings → Result (Option Config) ProjectFault → Result Config ConfigFault
@@ -179,6 +180,7 @@ HasEntriesOf listing entries = Unit {0}
 HasEntriesOf injecting entries = Unit {0}
 HasEntriesOf editing entries = Unit {0}
 HasEntriesOf (explaining path) entries = Unit {0}
+HasEntriesOf (vendoring path) entries = Unit {0}
 HasEntriesOf (measuring number) entries = Unit {0}
 
 -- own: a project whose file can be written; where an option is given, its value stands; and so for the entries

@@ -8,25 +8,31 @@
 --     IsCommandOf words command         they ask for this command, and none of their texts is refused
 --     Measures words number             they ask for the map of a stated tree of so many packages
 --     AsksWhy words path                they ask why the file at this path is loaded
+--     VendorsTo words path              they ask to copy what the map needs to this path
 --     IsSession words                   they ask for a session on a project
 --     RefusesWords words fault          plain words that ask for a command and have such a text, or that ask for a file
---                                       by what isn't a path
-use Rattle.std.specs.Prelude.{◌≡◌, ℕ, List, Option, Some, None, if◌then◌else◌}
+--                                       by what isn't a path, or for copies in the root or in what isn't a path
+--     is_page_path text                 a text is a path other than the root's
+use Rattle.std.specs.Prelude.{◌≡◌, ◌&&◌, ℕ, Bool, not, List, Option, Some, None, codes, bytes_eq, if◌then◌else◌}
 use Rattle.tree_spec.specs.Paths.{IsPath}
 use Rattle.url_spec.specs.Bases.{base_of}
 use Rattle.url_spec.specs.PathTests.{is_path}
 use Rattle.node_spec.specs.Conditions.{AreConditions, names_in}
 use Rattle.project_spec.specs.ProjectFiles.{IsPagePath}
 use Rattle.words_spec.specs.PlainWords.{Asked, Asks, LinkOptions, no_options, linking, unlinking, refreshing, checking}
-use Rattle.words_spec.specs.PlainWords.{listing, injecting, editing, explaining, measuring}
+use Rattle.words_spec.specs.PlainWords.{listing, injecting, editing, explaining, vendoring, measuring}
 use Rattle.config_spec.specs.declared.Command.{Command}
-use Rattle.config_spec.specs.declared.Command.TheVariants.{Link, Unlink, Refresh, Inject, Check, Why}
+use Rattle.config_spec.specs.declared.Command.TheVariants.{Link, Unlink, Refresh, Inject, Check, Why, Vendor}
 use Rattle.config_spec.specs.declared.Command.TheVariants.{List as Lists}
 use Rattle.config_spec.specs.declared.ConfigFault.{ConfigFault}
 use Rattle.config_spec.specs.declared.ConfigFault.TheVariants.{BadBase, BadPath, BadConditions}
 
--- own: a session is no command that ends by itself, a measure needs no project, and no file is asked for by what
--- isn't a path
+-- own: as IsPagePath says it
+abbrev pub is_page_path : List ℕ → Bool
+is_page_path text = is_path text && not (bytes_eq text (codes "/"))
+
+-- own: a session is no command that ends by itself, a measure needs no project, no file is asked for by what isn't a
+-- path, and no folder of copies either, which isn't the root
 abbrev pub command_of : Asked → Option Command
 command_of (linking options entries) = Some Link
 command_of (unlinking entries) = Some Unlink
@@ -36,6 +42,7 @@ command_of injecting = Some Inject
 command_of listing = Some Lists
 command_of editing = None
 command_of (explaining path) = if is_path path then Some Why else None
+command_of (vendoring path) = if is_page_path path then Some Vendor else None
 command_of (measuring number) = None
 
 abbrev pub options_of : Asked → LinkOptions
@@ -47,6 +54,7 @@ options_of injecting = no_options
 options_of listing = no_options
 options_of editing = no_options
 options_of (explaining path) = no_options
+options_of (vendoring path) = no_options
 options_of (measuring number) = no_options
 
 -- ---- options
@@ -111,6 +119,9 @@ Measures words number = Asks words (measuring number)
 abbrev pub AsksWhy : List (List ℕ) → List ℕ → Type 0
 AsksWhy words path = Asks words (explaining path)
 
+abbrev pub VendorsTo : List (List ℕ) → List ℕ → Type 0
+VendorsTo words path = Asks words (vendoring path)
+
 abbrev pub IsSession : List (List ℕ) → Type 0
 IsSession words = Asks words editing
 
@@ -119,3 +130,4 @@ pub data RefusesWords (words : List (List ℕ)) : ConfigFault → Type 0 where
       (asked : Asked) (command : Command) (fault : ConfigFault) → Asks words asked → command_of asked ≡ Some command
       → RefusesOptions (options_of asked) fault → RefusesWords words fault
   bad_file : (path : List ℕ) → AsksWhy words path → (IsPath path → ⊥) → RefusesWords words (BadPath path)
+  bad_folder : (path : List ℕ) → VendorsTo words path → (IsPagePath path → ⊥) → RefusesWords words (BadPath path)

@@ -13,8 +13,8 @@ use Rattle.tree_spec.specs.declared.LimitName.TheVariants.{Entries, File}
 use Rattle.tree_spec.specs.Limits.{limit_number}
 use Rattle.trace_spec.specs.Modules.{Config}
 use Rattle.words_spec.specs.PlainWords.{LinkOptions, no_options, linking, unlinking, refreshing, checking}
-use Rattle.words_spec.specs.PlainWords.{listing, injecting, explaining}
-use Rattle.config_spec.specs.declared.Command.TheVariants.{Link, Why}
+use Rattle.words_spec.specs.PlainWords.{listing, injecting, explaining, vendoring}
+use Rattle.config_spec.specs.declared.Command.TheVariants.{Link, Why, Vendor}
 use Rattle.config_spec.specs.declared.ProjectFault.TheVariants.{Absent, TooLarge, NotProject}
 use Rattle.config_spec.specs.declared.ConfigFault.TheVariants.{BadBase, BadPath, BadConditions, Project}
 use Rattle.config_spec.specs.declared.ConfigFault.TheVariants.{NoBase, NotLinked, TooManyEntries}
@@ -142,6 +142,7 @@ pub record ProjectExamples : Type 0 where
   pub list : config_by listing no_settings (Ok (Some site)) ≡ Ok site
   pub list_nothing : config_by listing no_settings (Ok None) ≡ Err (Project Absent)
   pub why : config_by (explaining (codes "/a.mjs")) no_settings (Ok (Some site)) ≡ Ok site
+  pub vendor : config_by (vendoring (codes "/out")) no_settings (Ok (Some site)) ≡ Ok site
   pub check_nothing : config_by checking no_settings (Ok None) ≡ Err (Project Absent)
   pub inject_large : config_by injecting no_settings (Err TooLarge) ≡ Err (Project TooLarge)
 
@@ -166,6 +167,10 @@ pub record WordExamples : Type 0 where
   pub why_root : IsCommandOf (codes "why" ∷ codes "/" ∷ []) Why
   pub why_no_path : RefusesWords (codes "why" ∷ codes "a.mjs" ∷ []) (BadPath (codes "a.mjs"))
   pub why_up : RefusesWords (codes "why" ∷ codes "/a/../b.mjs" ∷ []) (BadPath (codes "/a/../b.mjs"))
+  pub vendor : IsCommandOf (codes "vendor" ∷ codes "/out" ∷ []) Vendor
+  pub vendor_root : RefusesWords (codes "vendor" ∷ codes "/" ∷ []) (BadPath (codes "/"))
+  pub vendor_no_path : RefusesWords (codes "vendor" ∷ codes "out" ∷ []) (BadPath (codes "out"))
+  pub vendor_nothing : RefusesConfig (codes "vendor" ∷ codes "/out" ∷ []) bare_tree (Project Absent)
   pub why_nothing : RefusesConfig (codes "why" ∷ codes "/a.mjs" ∷ []) bare_tree (Project Absent)
   pub no_base : RefusesConfig (codes "link" ∷ codes "./app.mjs" ∷ []) bare_tree NoBase
   pub refresh_nothing : RefusesConfig (codes "refresh" ∷ []) bare_tree (Project Absent)

@@ -27,6 +27,8 @@ pub enum Command {
     List,
     /// The shortest chain of requests that leads from the page to a file.
     Why,
+    /// Copies of the files that the map needs, in a folder of their own.
+    Vendor,
 }
 
 /// Why there is no project. A place is an offset in the file, in bytes.

@@ -54,7 +54,7 @@ pub record IsFresh (known : Known) : Type 0 where
   pub kept : (path : List ℕ) → kept_at known path ≡ None
   pub laid : (path : List ℕ) → laid_at known path ≡ None
 
-sees_all : (tree : Tree) (known : Known) → IsFresh known → Sees tree known (get tree)
+pub sees_all : (tree : Tree) (known : Known) → IsFresh known → Sees tree known (get tree)
 sees_all tree known fresh = record { each = λ path. sym (λ i. look_or (option_or (fresh.laid path i) (fresh.kept path i)) (get tree path)) }
 
 -- ---- what is asked for, where nothing is known

@@ -7,6 +7,7 @@
 --     AsksFootprint config holds old after      where a tree is told, all further paths are of its footprint
 --     AsksFurther config before after      a folder that tells what it is asked for was asked so
 --     Tracing config before result after      the trace of a folder, and what is left of that
+--     generated_of result      the map, without its trace
 --     Generating config before result after      what the call that generates gives for a folder, and what it leaves
 --     IfSeen tree known P      of each tree that is seen where this is known of the tree behind, this
 --     TracingOver, GeneratingOver config before known result after later      the same, where something is known of the
@@ -33,6 +34,7 @@ use Rattle.trace_spec.specs.Traces.{traced, generation}
 use Rattle.package_lookup.specs.declared.known.Known.{Known}
 use Rattle.package_lookup.specs.Looked.{Sees}
 use Rattle.package_lookup.specs.Learning.{Learns}
+use Rattle.request_trace.specs.Showing.{Traced}
 use Rattle.request_trace.specs.Tracing.{known_of, IsOfFootprint}
 use Rattle.generator_spec.specs.declared.Command.{Command}
 use Rattle.generator_spec.specs.declared.Refusal.{Refusal}
@@ -107,6 +109,10 @@ pub record Tracing (config : Config) (before : FolderState) (result : Result Gat
   pub asked : IfSome before.asked (λ old. AsksNoPathTwice old after)
   pub footprint : IfSome before.asked (λ old. AsksFootprint config before.holds old after)
   pub looks : OnlyLooks before after (result ≡ Err ReadFault)
+
+abbrev pub generated_of : Result (Generated × Traced) Stop → Result Generated Stop
+generated_of (Ok found) = Ok found.0
+generated_of (Err stop) = Err stop
 
 -- own: a told tree has the trace whose map this is, or refuses each command that generates and is opened so; and the
 -- rest as for a trace

@@ -1,11 +1,12 @@
 ghost use Rattle.std.specs.Prelude.{◌≡◌, ◌+◌, Err, IfOk, Some};
 ghost use Rattle.fewest_spec.specs.Wishes.{HasTooManyChoices};
 ghost use Rattle.layout.specs.Layouts.{FewestLists};
+ghost use Rattle.request_trace.specs.Footprints.{IsFootprint};
 ghost use Rattle.request_trace.specs.Tracing.{TakesSteps};
 ghost use Rattle.generator_spec.specs.Generation.{PageIsFile};
 ghost use Rattle.trace_spec.specs.Modules.{web_name};
 ghost use Rattle.trace_spec.specs.Walking.{the_page};
-ghost use Rattle.generation.specs.Generating.{Generating, GeneratingOver, IsMapOf, HasLargeMap};
+ghost use Rattle.generation.specs.Generating.{Generating, GeneratingOver, IsMapOf, HasLargeMap, generated_of};
 
 use crate::digests::digests;
 use crate::page::page_url;
@@ -69,6 +70,27 @@ pub fn generate_over<F: Folder, L: Ledger>(
     ensures page { IfOk result (λ found. PageIsFile config.now) }
     ensures steps { TakesSteps result (λ found. found.modules + found.requests) steps.old steps.new }
 {
+    match generate_traced(alloc, folder, known, config, steps) {
+        Err(stop) => Err(stop),
+        Ok((generated, _trace)) => Ok(generated),
+    }
+}
+
+/// The same, with the trace from which the map came.
+pub fn generate_traced<F: Folder, L: Ledger>(
+    alloc: Global,
+    folder: &mut F,
+    known: &mut Known,
+    config: &Config,
+    steps: &mut Steps<L>,
+) -> Result<(Generated, Trace), Stop>
+    ensures generates { GeneratingOver config.now (F.state folder.old) known.old (generated_of result)
+        (F.state folder.new) known.new }
+    ensures page { IfOk result (λ found. PageIsFile config.now) }
+    ensures footprint { IfOk result (λ found. IsFootprint config.now (F.state folder.old) known.old known.new
+        found.1.footprint) }
+    ensures steps { TakesSteps result (λ found. found.0.modules + found.0.requests) steps.old steps.new }
+{
     match page_url(alloc, config) {
         Err(stop) => Err(stop),
         Ok(page) => generated_from(alloc, folder, known, config, &page, steps),
@@ -83,16 +105,18 @@ fn generated_from<F: Folder, L: Ledger>(
     config: &Config,
     page: &WebUrl,
     steps: &mut Steps<L>,
-) -> Result<Generated, Stop>
+) -> Result<(Generated, Trace), Stop>
     requires { web_name config.now the_page ≡ Some page.now }
-    ensures generates { GeneratingOver config.now (F.state folder.old) known.old result
+    ensures generates { GeneratingOver config.now (F.state folder.old) known.old (generated_of result)
         (F.state folder.new) known.new }
-    ensures steps { TakesSteps result (λ found. found.modules + found.requests) steps.old steps.new }
+    ensures footprint { IfOk result (λ found. IsFootprint config.now (F.state folder.old) known.old known.new
+        found.1.footprint) }
+    ensures steps { TakesSteps result (λ found. found.0.modules + found.0.requests) steps.old steps.new }
 {
     match traced_over(alloc, folder, known, config, steps) {
         Err(stop) => Err(stop),
         Ok(trace) => match map_of(alloc, config, page, &trace) {
-            Ok(generated) => Ok(generated),
+            Ok(generated) => Ok((generated, trace)),
             Err(MapFault::TooManyChoices) => Err(too_many_choices()),
             Err(MapFault::MapTooLarge) => Err(too_large()),
             Err(MapFault::Memory) => Err(Stop::Memory),

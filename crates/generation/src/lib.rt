@@ -8,6 +8,6 @@ mod page;
 mod stop;
 mod tracing;
 
-pub use generated::{Generated, generate, generate_over};
+pub use generated::{Generated, generate, generate_over, generate_traced};
 pub use stop::Stop;
 pub use tracing::traced;

@@ -1,4 +1,5 @@
 ghost use Rattle.std.specs.Prelude.{◌≡◌, ◌+◌, IfOk, length};
+ghost use Rattle.request_trace.specs.Footprints.{IsFootprint};
 ghost use Rattle.request_trace.specs.Showing.{gathered_of};
 ghost use Rattle.request_trace.specs.Tracing.{TakesSteps};
 ghost use Rattle.generation.specs.Generating.{Tracing, TracingOver};
@@ -39,6 +40,8 @@ pub(crate) fn traced_over<F: Folder, L: Ledger>(
     ensures traces { TracingOver config.now (F.state folder.old) known.old (gathered_of result) (F.state folder.new)
         known.new }
     ensures entries { IfOk result (λ trace. length trace.links.roots ≡ length config.now.entries) }
+    ensures footprint { IfOk result (λ trace. IsFootprint config.now (F.state folder.old) known.old known.new
+        trace.footprint) }
     ensures steps { TakesSteps result (λ trace. length trace.gathered.modules + length trace.gathered.targets)
         steps.old steps.new }
 {

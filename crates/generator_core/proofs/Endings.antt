@@ -31,7 +31,7 @@ use Rattle.generator_spec.specs.declared.Refusal.TheVariants as refusal
 use Rattle.generator_spec.proofs.Refusals.{written_is_opened}
 use Rattle.generator_spec.proofs.Configs.{command_for}
 use Rattle.generator_spec.proofs.Endings.{one_line_text}
-use Rattle.generator_spec.specs.Commands.{IsGenerating, HoldsMap, NewFile, new_file, map_path, Writes, Writes as writes_file}
+use Rattle.generator_spec.specs.Commands.{SaysCounts, HoldsMap, NewFile, new_file, map_path, Writes, Writes as writes_file}
 use Rattle.generator_spec.specs.Checking.{difference_line, difference_lines, check_status}
 use Rattle.generator_spec.specs.Digests.{with_digests}
 use Rattle.generator_spec.specs.Generation.{Generates, map_base}
@@ -44,7 +44,7 @@ use Rattle.config_spec.specs.Projects.{project_path, IsConfigOf}
 use Rattle.project_spec.specs.ProjectFiles.{project_text}
 use Rattle.generator_spec.specs.Lines.{page_status, map_file_status, config_status, project_status, status_of, line_of, counts_line, memory_line, read_fault_line}
 use Rattle.generator_spec.specs.Outcome.{ComesTo as comes, RefusesRun as refuses_run, RefusesRun, Outcome}
-use Rattle.generator_spec.specs.Ending.{AreWritten, IsGenerated, IsCarried, Linked, IsDone, MapServes, IsCounted, CanRefuse, CanRefuse as can_refuse, StopsWriting, Says, Ends, EndsAs, TellsRefusal}
+use Rattle.generator_spec.specs.Ending.{AreWritten, IsGenerated, IsCarried, Linked, IsDone, MapServes, IsCounted, CanRefuse, CanRefuse as can_refuse, StopsCopying, StopsWriting, Says, Ends, EndsAs, TellsRefusal}
 use Rattle.generator_spec.specs.Ending.{IsDone as done, Shaped as shaped, Says as says, Ends as ends}
 use Rattle.soundness.proofs.Checked.{checked_maps_serve}
 use Rattle.soundness.proofs.Smallest.{generated_is_smallest}
@@ -117,6 +117,9 @@ refusal_is_not_zero (refusal.Limit which) = λ e. omega arith
 refusal_is_not_zero (refusal.Page why) = page_is_not_zero why
 refusal_is_not_zero (refusal.MapFile why) = map_file_is_not_zero why
 refusal_is_not_zero (refusal.Trace why) = trace_is_not_zero why
+refusal_is_not_zero (refusal.Occupied path) = λ e. omega arith
+refusal_is_not_zero refusal.PathTooLong = λ e. omega arith
+refusal_is_not_zero refusal.TooManySegments = λ e. omega arith
 
 -- ---- what was generated and written serves
 
@@ -210,6 +213,8 @@ says_from words before middle after h l w status lines (says.read_fault command 
     says.read_fault command is s t (held ∙ h) (subst (λ n. Rose n after.look_faults) l rose) (writes ∙ w)
 says_from words before middle after h l w status lines (says.write_fault line counted stops s t looks rose) =
     says.write_fault line counted (subst (λ held. IfSome held (λ tree. StopsWriting words tree line after.holds)) h stops) s t (looks ∙ l) (subst (λ n. Rose n after.write_faults) w rose)
+says_from words before middle after h l w status lines (says.copy_fault able stops s t looks rose) =
+    says.copy_fault able (subst (λ held. IfSome held (λ tree. StopsCopying words tree after.holds)) h stops) s t (looks ∙ l) (subst (λ n. Rose n after.write_faults) w rose)
 
 pub ends_from : (words : List (List ℕ)) (before middle after : FolderState) (out out_after : SinkState) (result : ℕ) → OnlyLooks before middle ⊥ → EndsAs words middle after out out_after result → EndsAs words before after out out_after result
 ends_from words before middle after out out_after result looked is =
@@ -352,7 +357,7 @@ module _ (words : List (List ℕ)) (command : Command) (config : Config) (before
 
 -- ---- files that are written
 
-module _ (words : List (List ℕ)) (command : Command) (config : Config) (before middle after : FolderState) (out out_after : SinkState) (result : ℕ) (prepared : Prepared) (generating : IsGenerating command) (is_config : IsConfigAt words command config before) (is : IsReady command config before middle prepared) (wrote : EndsWriting prepared middle after out out_after result) where
+module _ (words : List (List ℕ)) (command : Command) (config : Config) (before middle after : FolderState) (out out_after : SinkState) (result : ℕ) (prepared : Prepared) (counting : SaysCounts command) (is_config : IsConfigAt words command config before) (is : IsReady command config before middle prepared) (wrote : EndsWriting prepared middle after out out_after result) where
   abbrev new_here : List NewFile
   new_here = shown_files prepared
 
@@ -366,7 +371,7 @@ module _ (words : List (List ℕ)) (command : Command) (config : Config) (before
   looks = wrote.looks ∙ quiet
 
   counted : IsCounted words done_here
-  counted = record { command = command; config = config; is_config = is_config.can; generating = generating; modules = prepared.modules; requests = prepared.requests; mappings = prepared.mappings; says = refl }
+  counted = record { command = command; config = config; is_config = is_config.can; counting = counting; modules = prepared.modules; requests = prepared.requests; mappings = prepared.mappings; says = refl }
 
   generated_of : (tree : Tree) → IsConfigOf words tree command config → (ready : IsPrepared command config tree prepared) → IsGenerated words tree (map_text (map_base config) (with_digests config ready.all ready.layout)) done_here
   generated_of tree of ready = record {

@@ -9,5 +9,7 @@ pub mod MappedChains
 pub mod LoadedBy
 pub mod ToldChains
 pub mod Explainings
+pub mod Vendorings
+pub mod CopiesTold
 pub mod Measurings
 pub mod HeldSessions

@@ -28,7 +28,7 @@ use Rattle.generator_spec.specs.declared.PageFault.{PageFault}
 use Rattle.generator_spec.specs.declared.PageFault.TheVariants.{Absent, TooLarge, KeepsMapsOut}
 use Rattle.generator_spec.specs.declared.Refusal.TheVariants.{Page}
 use Rattle.generator_spec.specs.Generation.{PageIsFile}
-use Rattle.generator_spec.specs.Commands.{IsGenerating, IsMapping, IsMapping as mapping, IsPage, RefusesPage, RefusesPage as refuses_page, Opens, Opens as opens, Refuses, Refuses as refuses}
+use Rattle.generator_spec.specs.Commands.{IsGenerating, SaysCounts, IsMapping, IsMapping as mapping, IsPage, RefusesPage, RefusesPage as refuses_page, Opens, Opens as opens, Refuses, Refuses as refuses}
 use Rattle.generator_spec.specs.Commands.{IsOfPage, IsRefusalOf as kind, Writes, Writes as writes}
 use Rattle.generation.specs.declared.generated.Generated.{Generated}
 use Rattle.generation.specs.declared.stop.Stop.{Stop}
@@ -88,6 +88,11 @@ pub generates : {command : Command} (keeps : Bool) → KeepsProject command keep
 generates _ keeps_project.link = tt
 generates _ keeps_project.unlink = tt
 generates _ keeps_project.refresh = tt
+
+pub counts : {command : Command} (keeps : Bool) → KeepsProject command keeps → SaysCounts command
+counts _ keeps_project.link = tt
+counts _ keeps_project.unlink = tt
+counts _ keeps_project.refresh = tt
 
 -- ---- generation
 

@@ -8,7 +8,7 @@ use Rattle.tree_spec.specs.Trees.{Tree, Places}
 use Rattle.tree_spec.proofs.ToldStates.{if_some}
 use Rattle.trace_spec.specs.Modules.{Config}
 use Rattle.config_spec.specs.declared.Command.{Command}
-use Rattle.config_spec.specs.declared.Command.TheVariants.{Why}
+use Rattle.config_spec.specs.declared.Command.TheVariants.{Why, Vendor}
 use Rattle.config_spec.specs.Projects.{project_path, IsConfigOf}
 use Rattle.config_spec.specs.Words.{IsCommandOf}
 use Rattle.command_words.specs.declared.fault.WordsFault.{WordsFault}
@@ -40,6 +40,15 @@ not_why orders.Refresh e = absurd (cc)
 not_why orders.Check e = absurd (cc)
 not_why orders.List e = absurd (cc)
 not_why orders.Inject e = absurd (cc)
+
+-- nor for copies
+pub not_vendor : (order : Order) → command_ordered order ≢ Vendor
+not_vendor (orders.Link settings entries) e = absurd (cc)
+not_vendor (orders.Unlink entries) e = absurd (cc)
+not_vendor orders.Refresh e = absurd (cc)
+not_vendor orders.Check e = absurd (cc)
+not_vendor orders.List e = absurd (cc)
+not_vendor orders.Inject e = absurd (cc)
 
 text_not_done : (out out_after : SinkState) (result : ℕ) → TellsNoMeaning out out_after result → result ≢ 0
 text_not_done out out_after result (tells_text.text text told) zero = let e = status_done 2 text out out_after result told zero in absurd (omega (arith, e))

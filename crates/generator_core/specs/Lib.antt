@@ -6,5 +6,6 @@ pub mod Configuring
 pub mod Spending
 pub mod Running
 pub mod Explaining
+pub mod Vendoring
 pub mod Measuring
 pub mod RunEnds

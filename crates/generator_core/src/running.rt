@@ -1,17 +1,20 @@
-ghost use Rattle.std.specs.Prelude.{◌≡◌, ◌≢◌, ◌≤◌, List, ℕ, map, string_bytes, IfSome};
+ghost use Rattle.std.specs.Prelude.{◌≡◌, ◌≢◌, ◌≤◌, List, ℕ, map, string_bytes, IfSome, codes, length};
 ghost use Rattle.words_spec.specs.PlainWords.{most_packages};
 ghost use Rattle.config_spec.specs.declared.Command.{Command as Commanded};
-ghost use Rattle.config_spec.specs.declared.Command.TheVariants.{Inject, Check, Why, List as ListModules};
+ghost use Rattle.config_spec.specs.declared.Command.TheVariants.{Inject, Check, Why, Vendor, List as ListModules};
 ghost use Rattle.config_spec.specs.Words.{IsSession};
-ghost use Rattle.generator_spec.specs.Commands.{IsGenerating};
+ghost use Rattle.generator_spec.specs.Commands.{IsGenerating, SaysCounts};
 ghost use Rattle.generator_spec.specs.Ending.{Ends, EndsAs, TellsRefusal};
 ghost use Rattle.generator_spec.specs.Asked.{AsksInOrder};
 ghost use Rattle.session_spec.specs.SessionRuns.{SessionEnds};
-ghost use Rattle.command_words.specs.Orders.{AsksWhyAt, IsOrder, command_ordered};
+ghost use Rattle.command_words.specs.Orders.{AsksWhyAt, IsOrder, VendorsAt, command_ordered};
 ghost use Rattle.generator_core.specs.Preparing.{KeepsProject, shown_file};
 ghost use Rattle.generator_core.specs.Measuring.{RunsMeasure, TellsMeasure};
 ghost use Rattle.generator_core.specs.RunEnds.{IsIdle, RunEnds};
 ghost use Rattle.generator_core.specs.Explaining.{RunsWhy};
+ghost use Rattle.generator_core.specs.Vendoring.{EndsFiles, RunsVendor, new_files};
+ghost use Rattle.generator_spec.specs.Lines.{vendored_line as copies_line};
+ghost use Rattle.tree_vendor.specs.Copying.{AreKept};
 ghost use Rattle.generator_core.specs.Running.{RunsCommand};
 ghost use Rattle.generator_core.specs.Spending.{CommandSpends};
 ghost use Rattle.generator_core.specs.Writing.{TellsStop, TellsWords, EndsWriting, WritesFiles};
@@ -22,6 +25,7 @@ use crate::listing::listed;
 use crate::measuring::measured;
 use crate::prepared::{Fresh, Prepared, prepare_map, prepare_page};
 use crate::project::configured;
+use crate::vendoring::{Copies, prepare_copies};
 use command_words::{Order, Wanted, WordsFault, order_of};
 use generation::{Generated, Stop};
 use generator_spec::{Command, Refusal};
@@ -29,12 +33,13 @@ use primitives::Steps;
 use request_trace::Config;
 use run_texts::{
     BAD_WORDS, DONE, MEMORY, READ_FAULT, WRITE_FAULT, done_line, line_of, measure_line,
-    memory_line, not_plain_line, read_fault_line, status_of, write_fault_line,
+    memory_line, not_plain_line, read_fault_line, status_of, vendored_line, write_fault_line,
 };
 use session_run::session;
 use std::alloc::Global;
 use std::sync::ledger::Ledger;
 use tree_model::{Folder, Path, Sink, Source};
+use tree_vendor::copy_out;
 
 /// Does all that the program does: reads the words and the project, generates from the folder, writes the map and the
 /// project or the page, or checks the map that is there, and says how it ended; or holds a session, whose lines come
@@ -55,6 +60,7 @@ pub fn run<F: Folder, I: Source, O: Sink, L: Ledger>(
     match order_of(alloc, words) {
         Ok(Wanted::Order(order)) => ordered(alloc, folder, order, out, steps),
         Ok(Wanted::Why { path }) => explain(alloc, folder, &path, out, steps),
+        Ok(Wanted::Vendor { path }) => vendor(alloc, folder, &path, out, steps),
         Ok(Wanted::Measure { number }) => measure(alloc, number, out, steps),
         Ok(Wanted::Session) => hold(alloc, folder, input, out, steps),
         Err(fault) => misworded(alloc, fault, out),
@@ -111,6 +117,27 @@ fn explain<F: Folder, O: Sink, L: Ledger>(
     }
 }
 
+// `vendor`: looks for the project, and copies the files that its map needs to this path.
+fn vendor<F: Folder, O: Sink, L: Ledger>(
+    alloc: Global,
+    folder: &mut F,
+    to: &Path,
+    out: &mut O,
+    steps: &mut Steps<L>,
+) -> u8
+    requires { to.now ≢ codes "/" }
+    ensures end { (words : List (List ℕ)) → VendorsAt words to.now
+        → EndsAs words (F.state folder.old) (F.state folder.new) (O.state out.old) (O.state out.new) result }
+    ensures asked { IfSome (F.state folder.old).asked (λ old. (words : List (List ℕ)) → VendorsAt words to.now
+        → AsksInOrder words (F.state folder.old) old (F.state folder.new)) }
+    ensures steps { CommandSpends (SaysCounts Vendor) (O.state out.old) (O.state out.new) result steps.old steps.new }
+{
+    match configured(alloc, folder, Order::Refresh) {
+        Ok(config) => tell_copies(alloc, folder, &config, to, out, steps),
+        Err(stop) => close(alloc, stop, out),
+    }
+}
+
 // Looks for the project, and does what is asked for with it.
 fn ordered<F: Folder, O: Sink, L: Ledger>(
     alloc: Global,
@@ -142,7 +169,8 @@ fn commanded<F: Folder, O: Sink, L: Ledger>(
     out: &mut O,
     steps: &mut Steps<L>,
 ) -> u8
-    requires { command ≢ Why }
+    requires explains { command ≢ Why }
+    requires vendors { command ≢ Vendor }
     ensures { RunsCommand command config.now (F.state folder.old) (F.state folder.new) (O.state out.old)
         (O.state out.new) result steps.old steps.new }
 {
@@ -154,6 +182,7 @@ fn commanded<F: Folder, O: Sink, L: Ledger>(
         Command::Check => check(alloc, folder, config, out, steps),
         Command::List => list(alloc, folder, config, out, steps),
         Command::Why => unreachable!(),
+        Command::Vendor => unreachable!(),
     }
 }
 
@@ -245,6 +274,25 @@ fn tell_why<F: Folder, O: Sink, L: Ledger>(
     }
 }
 
+// `vendor`: generates, copies the files that were looked at, and says how many.
+fn tell_copies<F: Folder, O: Sink, L: Ledger>(
+    alloc: Global,
+    folder: &mut F,
+    config: &Config,
+    to: &Path,
+    out: &mut O,
+    steps: &mut Steps<L>,
+) -> u8
+    requires { to.now ≢ codes "/" }
+    ensures { RunsVendor to.now config.now (F.state folder.old) (F.state folder.new) (O.state out.old)
+        (O.state out.new) result steps.old steps.new }
+{
+    match prepare_copies(alloc, folder, config, to, steps) {
+        Ok(copies) => finish_copies(alloc, folder, &copies, out),
+        Err(stop) => close(alloc, stop, out),
+    }
+}
+
 // `measure`: generates over a stated tree, and says how much came of it.
 fn measure<O: Sink, L: Ledger>(alloc: Global, number: u64, out: &mut O, steps: &mut Steps<L>) -> u8
     requires { number ≤ most_packages }
@@ -298,6 +346,26 @@ fn finish<F: Folder, O: Sink>(alloc: Global, folder: &mut F, prepared: &Prepared
         tell(out, line.as_slice(), DONE)
     } else {
         tell(out, write_fault_line(), WRITE_FAULT)
+    }
+}
+
+// Writes the copies, and says how many.
+fn finish_copies<F: Folder, O: Sink>(
+    alloc: Global,
+    folder: &mut F,
+    copies: &Copies,
+    out: &mut O,
+) -> u8
+    requires { AreKept copies.now.known copies.now.plan }
+    ensures { EndsFiles (new_files copies.now.known copies.now.plan) (copies_line (length copies.now.plan))
+        (F.state folder.old) (F.state folder.new) (O.state out.old) (O.state out.new) result }
+{
+    let Ok(line) = vendored_line(alloc, copies.plan.len()) else {
+        return tell(out, memory_line(), MEMORY);
+    };
+    match copy_out(&copies.plan, &copies.known, folder) {
+        Ok(()) => tell(out, line.as_slice(), DONE),
+        Err(_) => tell(out, write_fault_line(), WRITE_FAULT),
     }
 }
 

@@ -5,9 +5,9 @@ use Rattle.tree_spec.specs.Trees.{Tree}
 use Rattle.trace_spec.specs.Modules.{Config}
 use Rattle.config_spec.specs.declared.Command.{Command}
 use Rattle.config_spec.specs.declared.ConfigFault.{ConfigFault}
-use Rattle.words_spec.specs.PlainWords.{editing, explaining, measuring}
+use Rattle.words_spec.specs.PlainWords.{editing, explaining, measuring, vendoring}
 use Rattle.config_spec.specs.Words.{IsCommandOf, IsPlain, IsSession, Measures, RefusesWords}
-use Rattle.config_spec.specs.Words.RefusesWords.{bad_option, bad_file}
+use Rattle.config_spec.specs.Words.RefusesWords.{bad_option, bad_file, bad_folder}
 use Rattle.config_spec.specs.Projects.{Configures, IsConfigOf, IsConfigFor, RefusesConfig}
 use Rattle.config_spec.proofs.Configs.{configs_are_judged}
 use Rattle.config_spec.proofs.ConfigsFit.{as_outcome, configs_are_projects}
@@ -35,6 +35,7 @@ command_is_plain words command is = record { asked = is.asked; asks = is.asks }
 pub refused_is_plain : (words : List (List ℕ)) (fault : ConfigFault) → RefusesWords words fault → IsPlain words
 refused_is_plain words fault (bad_option asked command why asks is refuses) = record { asked = asked; asks = asks }
 refused_is_plain words fault (bad_file path asks none) = record { asked = explaining path; asks = asks }
+refused_is_plain words fault (bad_folder path asks none) = record { asked = vendoring path; asks = asks }
 
 pub measured_is_plain : (words : List (List ℕ)) (number : ℕ) → Measures words number → IsPlain words
 measured_is_plain words number asks = record { asked = measuring number; asks = asks }

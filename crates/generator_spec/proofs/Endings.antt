@@ -13,17 +13,17 @@ use Rattle.trace_spec.specs.Kinds.{IsOfTrace}
 use Rattle.trace_spec.specs.Modules.{Config}
 use Rattle.generator_spec.specs.declared.Refusal.{Refusal}
 use Rattle.generator_spec.specs.declared.Refusal.TheVariants.{Config as Configured}
-use Rattle.words_spec.specs.PlainWords.{Asked, LinkOptions}
+use Rattle.words_spec.specs.PlainWords.{Asked, LinkOptions, vendoring}
 use Rattle.config_spec.proofs.WordsJudged.{words_are_judged}
 use Rattle.config_spec.specs.declared.ConfigFault.{ConfigFault}
 use Rattle.config_spec.specs.Words.{IsPlain, options_of, RefusesOptions, RefusesWords}
 use Rattle.config_spec.specs.Words.RefusesOptions.{bad_base, bad_path, bad_conditions}
-use Rattle.config_spec.specs.Words.RefusesWords.{bad_option, bad_file}
+use Rattle.config_spec.specs.Words.RefusesWords.{bad_option, bad_file, bad_folder}
 use Rattle.config_spec.specs.Projects.{RefusesAsked, measure_config}
 use Rattle.config_spec.specs.Projects.IsReadFault.{too_large, not_project, above}
 use Rattle.config_spec.specs.Projects.RefusesAsked.{bad_project, no_project, no_base, too_many_entries, not_linked}
 use Rattle.config_spec.specs.declared.Command.{Command}
-use Rattle.config_spec.specs.declared.Command.TheVariants.{Check, Refresh, Why, List as Lists}
+use Rattle.config_spec.specs.declared.Command.TheVariants.{Check, Refresh, Vendor, Why, List as Lists}
 use Rattle.generator_spec.specs.declared.MapFileFault.{MapFileFault}
 use Rattle.generator_spec.specs.declared.MapFileFault.TheVariants as map_file
 use Rattle.generator_spec.specs.declared.PageFault.{PageFault}
@@ -33,10 +33,11 @@ use Rattle.generator_spec.specs.Checking.{check_status}
 use Rattle.generator_spec.specs.Lines.{config_status, config_line, page_status, map_file_status, trace_status, status_of, line_of, memory_line}
 use Rattle.generator_spec.specs.Statuses.{LeavesTree}
 use Rattle.generator_spec.specs.Outcome.{ComesTo, ComesTo as comes, FilesPlaced, Outcome}
-use Rattle.generator_spec.specs.Ending.{CanRefuse, CanRefuse as can, IsDone, StopsWriting, Shaped, Says, Ends}
+use Rattle.generator_spec.specs.Vendoring.{IsCopyRefusal, IsCopyRefusal as copying}
+use Rattle.generator_spec.specs.Ending.{CanRefuse, CanRefuse as can, IsDone, StopsCopying, StopsWriting, Shaped, Says, Ends}
 use Rattle.generator_spec.specs.Ending.{Shaped as shaped, Says as says, Ends as ends}
 use Rattle.generator_spec.specs.Ending.{TellsChain, TellsChain as chain}
-use Rattle.generator_spec.specs.Promises.{AreWrong, HasStopped, Untouched, Shows}
+use Rattle.generator_spec.specs.Promises.{AreWrong, HasStopped, HasStopped as stopped, Untouched, Shows}
 use Rattle.generator_spec.proofs.Configs.{command_for, command_is_plain, measured_is_plain, refused_is_plain, refused_or_command}
 
 -- ---- statuses
@@ -58,6 +59,7 @@ options_refusing options fault (bad_conditions base page text sets sets_page giv
 words_refusing : (words : List (List ℕ)) (fault : ConfigFault) → RefusesWords words fault → IsRefusing (config_status fault)
 words_refusing words fault (bad_option asked command why asks is refuses) = options_refusing (options_of asked) fault refuses
 words_refusing words fault (bad_file path asks none) = two refl
+words_refusing words fault (bad_folder path asks none) = two refl
 
 asked_refusing : (asked : Asked) (fault : ConfigFault) → RefusesAsked asked fault → IsRefusing (config_status fault)
 asked_refusing asked fault (bad_project _ _ too_large) = three refl
@@ -99,10 +101,16 @@ refusing config command why (kind.map_file fault) = map_file_refusing fault
 refusing config command why (kind.many_choices same generating) = three refl
 refusing config command why (kind.large_map same generating) = three refl
 
+copies_refusing : (to : List ℕ) (why : Refusal) → IsCopyRefusal to why → IsRefusing (status_of why)
+copies_refusing to why copying.occupied = one refl
+copies_refusing to why copying.long = three refl
+copies_refusing to why copying.deep = three refl
+
 can_refusing : (words : List (List ℕ)) (why : Refusal) → CanRefuse words why → IsRefusing (status_of why)
 can_refusing words why (can.by_words fault is) = words_refusing words fault is
 can_refusing words why (can.by_project fault is) = asked_refusing is.asked fault is.refuses
 can_refusing words why (can.by_tree command config reason is of) = refusing config command reason of
+can_refusing words why (can.by_copies able reason of) = copies_refusing able.to reason of
 can_refusing words why (can.by_measure number reason asks of) = refusing measure_config Refresh reason of
 
 check_refusing : (differing : List (List ℕ)) → (check_status differing ≡ 0) ⊎ IsRefusing (check_status differing)
@@ -127,6 +135,7 @@ shaped_status words status lines (shaped.checked is) =
 shaped_status words status lines (shaped.listed is) = inl is.ends
 shaped_status words status lines (shaped.explained is) =
     ⊎_elim inl (λ e. inr (ten e)) (chain_status is.config is.path status lines is.tells)
+shaped_status words status lines (shaped.vendored is) = inl is.ends
 shaped_status words status lines (shaped.measured is) = inl is.ends
 
 refusal_status : (status : ℕ) → IsRefusing status → LeavesTree status
@@ -177,6 +186,7 @@ unmoved words tree status lines files later (comes.written command config map is
 unmoved words tree status lines files later (comes.checked config map all is holds traces s l f) placed other = nothing_placed files tree later f placed
 unmoved words tree status lines files later (comes.listed config all is traces s l f) placed other = nothing_placed files tree later f placed
 unmoved words tree status lines files later (comes.explained path config all asks is traces tells f) placed other = nothing_placed files tree later f placed
+unmoved words tree status lines files later (comes.vendored to pairs v s l f) placed other = absurd (other s)
 unmoved words tree status lines files later (comes.measured number map asks generates s l f) placed other = nothing_placed files tree later f placed
 
 kept_where_refused :
@@ -190,7 +200,11 @@ kept_where_refused words status lines (Some tree) told untold other here =
 
 if_stopped : (words : List (List ℕ)) (held told : Option Tree) (line : List ℕ) → IfSome held (λ tree. StopsWriting words tree line told) → IfSome held (λ tree. HasStopped words tree told)
 if_stopped words None told line stops = tt
-if_stopped words (Some tree) told line stops = record { line = line; stops = stops }
+if_stopped words (Some tree) told line stops = stopped.writing line stops
+
+if_copied : (words : List (List ℕ)) (held told : Option Tree) → IfSome held (λ tree. StopsCopying words tree told) → IfSome held (λ tree. HasStopped words tree told)
+if_copied words None told stops = tt
+if_copied words (Some tree) told stops = stopped.copying stops
 
 -- ---- one line
 
@@ -205,6 +219,7 @@ module _ (words : List (List ℕ)) (before after : FolderState) (status : ℕ) (
   said_status (says.memory s t k l w) = inr (inr (inr (inr (inr (inr (inr (inr (inl s))))))))
   said_status (says.read_fault command is_command s t k rose w) = inr (inr (inr (inr (inr (inl s)))))
   said_status (says.write_fault line counted stops s t l rose) = inr (inl s)
+  said_status (says.copy_fault able stops s t l rose) = inr (inl s)
 
   said_kept :
       (before.holds ≡ None → after.holds ≡ None) → Says words before after status lines → LeavesTree status
@@ -215,6 +230,7 @@ module _ (words : List (List ℕ)) (before after : FolderState) (status : ℕ) (
   said_kept untold (says.memory s t k l w) refused = k
   said_kept untold (says.read_fault command is_command s t k rose w) refused = k
   said_kept untold (says.write_fault line counted stops s t l rose) refused = absurd (no_refusal_status status (inr s) refused)
+  said_kept untold (says.copy_fault able stops s t l rose) refused = absurd (no_refusal_status status (inr s) refused)
 
   outcome_not : (n : ℕ) → (n ≡ 4) ⊎ (n ≡ 5) → (status ≡ 0) ⊎ IsRefusing status → status ≢ n
   outcome_not n fault (inl none) e = grind (arith, fault, none, e)
@@ -227,6 +243,7 @@ module _ (words : List (List ℕ)) (before after : FolderState) (status : ℕ) (
   said_read (says.memory s t k l w) four = absurd (omega arith)
   said_read (says.read_fault command is_command s t k rose w) four = rose
   said_read (says.write_fault line counted stops s t l rose) four = absurd (omega arith)
+  said_read (says.copy_fault able stops s t l rose) four = absurd (omega arith)
 
   said_write : Says words before after status lines → status ≡ 5 → Rose before.write_faults after.write_faults
   said_write (says.outcome shape o l w) five =
@@ -234,6 +251,7 @@ module _ (words : List (List ℕ)) (before after : FolderState) (status : ℕ) (
   said_write (says.memory s t k l w) five = absurd (omega arith)
   said_write (says.read_fault command is_command s t k rose w) five = absurd (omega arith)
   said_write (says.write_fault line counted stops s t l rose) five = rose
+  said_write (says.copy_fault able stops s t l rose) five = rose
 
   -- ---- wrong words
 
@@ -245,6 +263,7 @@ module _ (words : List (List ℕ)) (before after : FolderState) (status : ℕ) (
   shaped_two (shaped.listed is) is_two = let zero = is.ends in absurd (omega (arith, zero, is_two))
   shaped_two (shaped.explained is) is_two =
       absurd (⊎_elim (λ e. omega (arith, e, is_two)) (λ e. omega (arith, e, is_two)) (chain_status is.config is.path status lines is.tells))
+  shaped_two (shaped.vendored is) is_two = let zero = is.ends in absurd (omega (arith, zero, is_two))
   shaped_two (shaped.measured is) is_two = let zero = is.ends in absurd (omega (arith, zero, is_two))
 
   said_two : Says words before after status lines → status ≡ 2 → AreWrong words
@@ -252,6 +271,7 @@ module _ (words : List (List ℕ)) (before after : FolderState) (status : ℕ) (
   said_two (says.memory s t k l w) is_two = absurd (omega arith)
   said_two (says.read_fault command is_command s t k rose w) is_two = absurd (omega arith)
   said_two (says.write_fault line counted stops s t l rose) is_two = absurd (omega arith)
+  said_two (says.copy_fault able stops s t l rose) is_two = absurd (omega arith)
 
   -- the tree is as it was, or the command was done, or it stopped between its writes
   kept_or_done :
@@ -263,6 +283,7 @@ module _ (words : List (List ℕ)) (before after : FolderState) (status : ℕ) (
   kept_or_done untold (says.memory s t k l w) = inl k
   kept_or_done untold (says.read_fault command is_command s t k rose w) = inl k
   kept_or_done untold (says.write_fault line counted stops s t l rose) = inr (inr (if_stopped words before.holds after.holds line stops))
+  kept_or_done untold (says.copy_fault able stops s t l rose) = inr (inr (if_copied words before.holds after.holds stops))
 
   -- ---- words that are refused
 
@@ -270,6 +291,7 @@ module _ (words : List (List ℕ)) (before after : FolderState) (status : ℕ) (
   can_be fault refuses why (can.by_words other is) = ap Configured ((words_are_judged words).one_fault other fault is refuses)
   can_be fault refuses why (can.by_project other is) = absurd (refused_or_command words fault is.command refuses (record { asked = is.asked; asks = is.asks; is = is.is; settings = is.settings; sets = is.sets }))
   can_be fault refuses why (can.by_tree command config reason is of) = absurd (refused_or_command words fault command refuses (command_for words command config is))
+  can_be fault refuses why (can.by_copies able reason of) = absurd (refused_or_command words fault Vendor refuses (command_for words Vendor able.config able.is_config))
   can_be fault refuses why (can.by_measure number reason asks of) = absurd ((words_are_judged words).no_fault number fault asks refuses)
 
   refused_shape :
@@ -287,6 +309,8 @@ module _ (words : List (List ℕ)) (before after : FolderState) (status : ℕ) (
       absurd (refused_or_command words fault Lists refuses (command_for words Lists is.config is.is_config))
   refused_shape fault refuses (shaped.explained is) =
       absurd (refused_or_command words fault Why refuses (command_for words Why is.config is.is_config))
+  refused_shape fault refuses (shaped.vendored is) =
+      absurd (refused_or_command words fault Vendor refuses (command_for words Vendor is.can.config is.can.is_config))
   refused_shape fault refuses (shaped.measured is) = absurd ((words_are_judged words).no_fault is.number fault is.measures refuses)
 
   refused_says :
@@ -305,6 +329,8 @@ module _ (words : List (List ℕ)) (before after : FolderState) (status : ℕ) (
       absurd (refused_or_command words fault command refuses is_command)
   refused_says untold fault refuses (says.write_fault line counted stops s t l rose) =
       absurd (refused_or_command words fault counted.command refuses (command_for words counted.command counted.config counted.is_config))
+  refused_says untold fault refuses (says.copy_fault able stops s t l rose) =
+      absurd (refused_or_command words fault Vendor refuses (command_for words Vendor able.config able.is_config))
 
   -- ---- words without a meaning
 
@@ -312,6 +338,7 @@ module _ (words : List (List ℕ)) (before after : FolderState) (status : ℕ) (
   can_is_plain why (can.by_words fault is) = refused_is_plain words fault is
   can_is_plain why (can.by_project fault is) = record { asked = is.asked; asks = is.asks }
   can_is_plain why (can.by_tree command config reason is of) = record { asked = is.asked; asks = is.asks }
+  can_is_plain why (can.by_copies able reason of) = record { asked = vendoring able.to; asks = able.asks }
   can_is_plain why (can.by_measure number reason asks of) = measured_is_plain words number asks
 
   no_meaning_shape : (IsPlain words → ⊥) → Shaped words status lines → status ≡ 2
@@ -321,6 +348,7 @@ module _ (words : List (List ℕ)) (before after : FolderState) (status : ℕ) (
   no_meaning_shape none (shaped.checked is) = absurd (none (command_is_plain words Check (command_for words Check is.config is.is_config)))
   no_meaning_shape none (shaped.listed is) = absurd (none (command_is_plain words Lists (command_for words Lists is.config is.is_config)))
   no_meaning_shape none (shaped.explained is) = absurd (none (command_is_plain words Why (command_for words Why is.config is.is_config)))
+  no_meaning_shape none (shaped.vendored is) = absurd (none (record { asked = vendoring is.can.to; asks = is.can.asks }))
   no_meaning_shape none (shaped.measured is) = absurd (none (measured_is_plain words is.number is.measures))
 
   no_meaning_says :
@@ -333,6 +361,7 @@ module _ (words : List (List ℕ)) (before after : FolderState) (status : ℕ) (
   no_meaning_says untold none (says.memory s t k l w) = (record { told = k; looks = l; writes = w }, inr s)
   no_meaning_says untold none (says.read_fault command is_command s t k rose w) = absurd (none (command_is_plain words command is_command))
   no_meaning_says untold none (says.write_fault line counted stops s t l rose) = absurd (none (command_is_plain words counted.command (command_for words counted.command counted.config counted.is_config)))
+  no_meaning_says untold none (says.copy_fault able stops s t l rose) = absurd (none (record { asked = vendoring able.to; asks = able.asks }))
 
   -- ---- counts
 
@@ -341,18 +370,21 @@ module _ (words : List (List ℕ)) (before after : FolderState) (status : ℕ) (
   said_looks (says.memory s t k l w) changed = absurd (changed l)
   said_looks (says.read_fault command is_command s t k rose w) changed = s
   said_looks (says.write_fault line counted stops s t l rose) changed = absurd (changed l)
+  said_looks (says.copy_fault able stops s t l rose) changed = absurd (changed l)
 
   said_writes : Says words before after status lines → after.write_faults ≢ before.write_faults → status ≡ 5
   said_writes (says.outcome shape o l w) changed = absurd (changed w)
   said_writes (says.memory s t k l w) changed = absurd (changed w)
   said_writes (says.read_fault command is_command s t k rose w) changed = absurd (changed w)
   said_writes (says.write_fault line counted stops s t l rose) changed = s
+  said_writes (says.copy_fault able stops s t l rose) changed = s
 
   writes_unless : Says words before after status lines → status ≢ 5 → after.write_faults ≡ before.write_faults
   writes_unless (says.outcome shape o l w) other = w
   writes_unless (says.memory s t k l w) other = w
   writes_unless (says.read_fault command is_command s t k rose w) other = w
   writes_unless (says.write_fault line counted stops s t l rose) other = absurd (other s)
+  writes_unless (says.copy_fault able stops s t l rose) other = absurd (other s)
 
 -- ---- what the answer says
 

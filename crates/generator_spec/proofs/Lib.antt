@@ -1,12 +1,14 @@
 pub mod Configs
 pub mod Choices
 pub mod Generations
+pub mod CopiedMaps
 pub mod Explanations
 pub mod RequestNumbers
 pub mod CopiedMaps
 pub mod Nameless
 pub mod MapPaths
 pub mod Refusals
+pub mod Vendorings
 pub mod Outcomes
 pub mod Endings
 pub mod ToldLines

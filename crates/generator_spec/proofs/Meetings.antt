@@ -5,15 +5,15 @@ use Rattle.std.specs.List.{concat}
 use Rattle.tree_spec.specs.States.{FolderState, SinkState}
 use Rattle.tree_spec.specs.Trees.{Tree}
 use Rattle.generator_spec.specs.Lines.{memory_line}
-use Rattle.config_spec.specs.declared.Command.TheVariants.{Check, Why}
+use Rattle.config_spec.specs.declared.Command.TheVariants.{Check, Vendor, Why}
 use Rattle.generator_spec.specs.Outcome.{ComesTo, ComesTo as comes, Outcome}
 use Rattle.generator_spec.specs.Commands.{IsGenerating, NewFile}
-use Rattle.generator_spec.specs.Ending.{StopsWriting, Says, Ends, Says as says, Ends as ends}
+use Rattle.generator_spec.specs.Ending.{StopsCopying, StopsWriting, Says, Ends, Says as says, Ends as ends}
 use Rattle.generator_spec.specs.Laws.{SameOutcome}
 use Rattle.generator_spec.specs.Promises.{Quiet, Stands, Finishes, Completes, Meets, Finishes as finish, Completes as complete}
 use Rattle.config_spec.specs.Words.{IsPlain}
 use Rattle.generator_spec.proofs.Configs.{command_is, command_is_plain, one_config}
-use Rattle.generator_spec.proofs.Outcomes.{one_outcome, one_status, refused_or_written, writes_generate}
+use Rattle.generator_spec.proofs.Outcomes.{one_outcome, one_status, refused_or_vendored, refused_or_written, two_commands, writes_count, writes_generate}
 use Rattle.generator_spec.proofs.Endings.{HasOutcomeIn, one_line_text}
 
 told_there : (P : Tree → Type 0) (held : Option Tree) (tree : Tree) → held ≡ Some tree → IfSome held P → P tree
@@ -34,6 +34,7 @@ no_map words tree line told expected texts files stops (comes.not_plain text non
 no_map words tree line told expected texts files stops (comes.refused why refused s l f) other =
     refused_or_written words tree why stops.generated.command stops.generated.config stops.map refused
     stops.generated.is_config stops.generated.opens stops.generated.generates
+    (writes_count tree stops.generated.config stops.map stops.generated.command stops.files stops.writes)
 no_map words tree line told expected texts files stops (comes.written command config map is generates wrote s l) other =
     other s
 no_map words tree line told expected texts files stops (comes.checked config map all is holds traces s l f) other =
@@ -45,7 +46,27 @@ no_map words tree line told expected texts files stops (comes.explained path con
     subst IsGenerating
     (one_config words tree stops.generated.command Why stops.generated.config config stops.generated.is_config is).one_command
     (writes_generate tree stops.generated.config stops.map stops.generated.command stops.files stops.writes)
+no_map words tree line told expected texts files stops (comes.vendored to pairs v s l f) other = other s
 no_map words tree line told expected texts files stops (comes.measured number map asks generates s l f) other = other s
+
+-- and nothing to copy
+no_copies :
+    (words : List (List ℕ)) (tree : Tree) (told : Option Tree) (expected : ℕ) (texts : List (List ℕ))
+    (files : List NewFile) → StopsCopying words tree told → ComesTo words tree expected texts files → expected ≢ 0 → ⊥
+no_copies words tree told expected texts files stops (comes.not_plain text none s l f) other =
+    none (command_is_plain words Vendor
+    (command_is words tree Vendor (Ok stops.vendors.config) stops.vendors.is_config))
+no_copies words tree told expected texts files stops (comes.refused why refused s l f) other =
+    refused_or_vendored words tree why stops.to stops.pairs refused stops.vendors
+no_copies words tree told expected texts files stops (comes.written command config map is generates wrote s l) other =
+    other s
+no_copies words tree told expected texts files stops (comes.checked config map all is holds traces s l f) other =
+    two_commands words tree Check Vendor config stops.vendors.config is stops.vendors.is_config (λ same. absurd (cc))
+no_copies words tree told expected texts files stops (comes.listed config all is traces s l f) other = other s
+no_copies words tree told expected texts files stops (comes.explained path config all asks is traces tells f) other =
+    two_commands words tree Why Vendor config stops.vendors.config is stops.vendors.is_config (λ same. absurd (cc))
+no_copies words tree told expected texts files stops (comes.vendored to pairs v s l f) other = other s
+no_copies words tree told expected texts files stops (comes.measured number map asks generates s l f) other = other s
 
 module _ (words : List (List ℕ)) (tree : Tree) (before after : FolderState) (out out_after : SinkState)
     (result status : ℕ) (lines : List (List ℕ)) (told : before.holds ≡ Some tree) where
@@ -69,6 +90,7 @@ module _ (words : List (List ℕ)) (tree : Tree) (before after : FolderState) (o
   finishes none (says.memory s t k l w) (ends.said is given quiet) = finish.memory (with_memory is given s t k)
   finishes none (says.read_fault command is_command s t k rose w) ended = absurd (none.looks rose)
   finishes none (says.write_fault line counted stops s t l rose) ended = absurd (none.writes rose)
+  finishes none (says.copy_fault able stops s t l rose) ended = absurd (none.writes rose)
   finishes none (says.outcome shape o l w) (ends.output_fault is gives rose) = absurd (none.output rose)
   finishes none (says.memory s t k l w) (ends.output_fault is gives rose) = absurd (none.output rose)
 
@@ -84,6 +106,7 @@ module _ (words : List (List ℕ)) (tree : Tree) (before after : FolderState) (o
     status_is (says.memory s t k l w) = inr (inl s)
     status_is (says.read_fault command is_command s t k rose w) = inr (inr (inl s))
     status_is (says.write_fault line counted stops s t l rose) = inr (inr (inr s))
+    status_is (says.copy_fault able stops s t l rose) = inr (inr (inr s))
 
     exactly :
         Says words before after status lines → Ends status (concat lines) out out_after result
@@ -107,6 +130,7 @@ module _ (words : List (List ℕ)) (tree : Tree) (before after : FolderState) (o
     completes plain none (says.memory s t k l w) (ends.said is given quiet) = complete.memory (with_memory is given s t k)
     completes plain none (says.read_fault command is_command s t k rose w) ended = absurd (none.looks rose)
     completes plain none (says.write_fault line counted stops s t l rose) ended = absurd (none.writes rose)
+    completes plain none (says.copy_fault able stops s t l rose) ended = absurd (none.writes rose)
     completes plain none (says.outcome shape o l w) (ends.output_fault is gives rose) = absurd (none.output rose)
     completes plain none (says.memory s t k l w) (ends.output_fault is gives rose) = absurd (none.output rose)
 
@@ -117,6 +141,9 @@ module _ (words : List (List ℕ)) (tree : Tree) (before after : FolderState) (o
     unwritten other (says.write_fault line counted stops s t l rose) =
         let here = told_there (λ t. StopsWriting words t line after.holds) before.holds tree told stops in
         absurd (no_map words tree line after.holds expected texts result_is.files here result_is.comes other)
+    unwritten other (says.copy_fault able stops s t l rose) =
+        let here = told_there (λ t. StopsCopying words t after.holds) before.holds tree told stops in
+        absurd (no_copies words tree after.holds expected texts result_is.files here result_is.comes other)
 
   meets :
       Says words before after status lines → Ends status (concat lines) out out_after result

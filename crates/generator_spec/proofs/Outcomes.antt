@@ -1,6 +1,6 @@
 -- A command over a tree has one outcome.
-use Rattle.std.proofs.Common.{◌≡◌, ◌⊎◌, ℕ, List, [], ◌∷◌, length, Some, Result, Ok, Err, codes, refl, sym, ap, ◌∙◌, subst, inl, inr, arith}
-use Rattle.std.specs.Prelude.{All}
+use Rattle.std.proofs.Common.{◌≡◌, ◌⊎◌, ℕ, List, [], ◌∷◌, length, Some, Result, Ok, Err, codes, refl, sym, ap, ◌∙◌, subst, inl, inr, arith, ◌≢◌, None}
+use Rattle.std.specs.Prelude.{All, ◌++◌}
 use Rattle.std.proofs.lemmas.List.Elements.{All-nil, All-cons, All-head, All-tail}
 use Rattle.std.specs.FinMap.{get, insert}
 use Rattle.tree_spec.specs.declared.Entry.{Entry}
@@ -17,27 +17,33 @@ use Rattle.trace_spec.specs.Modules.{Config}
 use Rattle.trace_spec.specs.Checks.{Gathered}
 use Rattle.trace_spec.specs.Traces.{traced}
 use Rattle.words_spec.specs.PlainWords.{Asks}
-use Rattle.config_spec.proofs.WordsJudged.{why_explains, words_are_judged}
+use Rattle.vendor_spec.proofs.Made.{some_copied}
+use Rattle.vendor_spec.proofs.Plans.{one_plan, some_plan}
+use Rattle.vendor_spec.specs.Goals.{HasDeepCopy, HasLongCopy}
+use Rattle.vendor_spec.specs.Vendored.{Pair, IsPlan}
+use Rattle.config_spec.proofs.WordsJudged.{path_vendored, vendor_copies, why_explains, words_are_judged}
 use Rattle.config_spec.specs.declared.Command.{Command}
-use Rattle.config_spec.specs.declared.Command.TheVariants.{Link, Unlink, Refresh, Check, Why}
+use Rattle.config_spec.specs.declared.Command.TheVariants.{Link, Unlink, Refresh, Check, Why, Vendor}
 use Rattle.config_spec.specs.declared.Command.TheVariants.{List as Lists}
 use Rattle.generator_spec.specs.declared.Refusal.{Refusal}
-use Rattle.generator_spec.specs.declared.Refusal.TheVariants.{Trace, Limit, Config as Configured}
+use Rattle.generator_spec.specs.declared.Refusal.TheVariants.{Trace, Limit, Config as Configured, Occupied, PathTooLong, TooManySegments}
 use Rattle.generator_spec.specs.Checking.{difference_lines, check_status, check_lines}
 use Rattle.generator_spec.specs.Listing.{list_lines}
 use Rattle.generator_spec.specs.Explaining.{SaysWhy}
-use Rattle.generator_spec.specs.Commands.{IsGenerating, map_path, HoldsMap, Opens, IsMapping as mapping, Opens as opens, Refuses, Refuses as refuses}
+use Rattle.generator_spec.specs.Commands.{IsGenerating, SaysCounts, map_path, HoldsMap, Opens, IsMapping as mapping, Opens as opens, Refuses, Refuses as refuses}
 use Rattle.generator_spec.specs.Commands.{NewFile, new_file, map_and_project, Writes, Writes as writes}
 use Rattle.generator_spec.specs.Generation.{Generates, IsTooWide, IsTooLarge}
 use Rattle.project_spec.specs.ProjectFiles.{project_text}
-use Rattle.config_spec.specs.Words.{AsksWhy, IsPlain, IsSession, Measures, RefusesWords}
+use Rattle.config_spec.specs.Words.{AsksWhy, VendorsTo, command_of, IsPlain, IsSession, Measures, RefusesWords}
 use Rattle.config_spec.specs.declared.ConfigFault.{ConfigFault}
 use Rattle.workload_spec.specs.Packages.{tree_of}
 use Rattle.config_spec.specs.Projects.{IsConfigOf, RefusesConfig, measure_config, project_path}
-use Rattle.generator_spec.specs.Lines.{status_of, line_of, done_line, measured_line}
+use Rattle.generator_spec.specs.CopiedMaps.{generation_paths}
+use Rattle.generator_spec.specs.Lines.{status_of, line_of, done_line, measured_line, vendored_line}
 use Rattle.generator_spec.specs.Measuring.{RefusesMeasure}
 use Rattle.generator_spec.specs.Outcome.{ComesTo, FilesPlaced, Outcome, RefusesRun, RefusesRun as runs}
-use Rattle.generator_spec.specs.Outcome.ComesTo.{not_plain, refused, written, checked, listed, explained, measured}
+use Rattle.generator_spec.specs.Outcome.ComesTo.{not_plain, refused, written, checked, listed, explained, vendored, measured}
+use Rattle.generator_spec.specs.Vendoring.{copied_files, IsBlocked, RefusesCopies, RefusesCopies as copies, Vendors}
 use Rattle.generator_spec.specs.Laws.{OneOutcome, HasOutcome, SomeOutcome}
 use Rattle.generator_spec.proofs.Configs.{SameConfig, one_config, one_config_fault, refused_or_config}
 use Rattle.generator_spec.proofs.Configs.{words_refused_or_config, words_refused_or_refused, page_is_path, plain_or_not}
@@ -49,6 +55,7 @@ use Rattle.generator_spec.proofs.MapPaths.{map_is_path, project_is_path, map_in_
 use Rattle.generator_spec.proofs.Nameless.{traced_is_named}
 use Rattle.generator_spec.proofs.Refusals.{one_refusal, refused_or_opened_and_generated, refused_or_checked, refused_or_listed, refused_or_explained, written_is_opened}
 use Rattle.generator_spec.proofs.Refusals.{Refused, opened_or_refused, one_held, one_write}
+use Rattle.generator_spec.proofs.Vendorings.{copied_paths, files_placed, one_copy_refusal, one_folder, refused_or_copied}
 
 -- ---- one at most
 
@@ -72,6 +79,16 @@ writes_generate tree config map command files writes.linked = tt
 writes_generate tree config map command files writes.unlinked = tt
 writes_generate tree config map command files writes.refreshed = tt
 writes_generate tree config map command files (writes.in_page page new is i) = tt
+
+pub writes_count : (tree : Tree) (config : Config) (map : List ℕ) (command : Command) (files : List NewFile) → Writes tree config map command files → SaysCounts command
+writes_count tree config map command files writes.linked = tt
+writes_count tree config map command files writes.unlinked = tt
+writes_count tree config map command files writes.refreshed = tt
+writes_count tree config map command files (writes.in_page page new is i) = tt
+
+-- the words ask for one command
+pub two_commands : (words : List (List ℕ)) (tree : Tree) (some other : Command) (config second : Config) → IsConfigOf words tree some config → IsConfigOf words tree other second → some ≢ other → ⊥
+two_commands words tree some other config second is is_too different = different (one_config words tree some other config second is is_too).one_command
 
 -- what is refused isn't generated
 pub refused_or_generated :
@@ -119,6 +136,7 @@ paths_of words tree status lines files (written command config map is generates 
 paths_of words tree status lines files (checked config map all is holds traces s l f) = no_paths files f
 paths_of words tree status lines files (listed config all is traces s l f) = no_paths files f
 paths_of words tree status lines files (explained path config all asks is traces tells f) = no_paths files f
+paths_of words tree status lines files (vendored to pairs v s l f) = subst ArePaths (sym f) (copied_paths to pairs v.is_plan.goals)
 paths_of words tree status lines files (measured number map is generates s l f) = no_paths files f
 
 -- ---- what it comes to
@@ -227,6 +245,32 @@ module _ (words : List (List ℕ)) (tree : Tree) (status other : ℕ) (lines oth
         same_files = f ∙ sym g;
       })
 
+  both_vendored :
+      (to to_too : List ℕ) (pairs pairs_too : List Pair) (v : Vendors words tree to pairs) → status ≡ 0
+      → lines ≡ vendored_line (length pairs) ∷ [] → files ≡ copied_files to pairs
+      → (w : Vendors words tree to_too pairs_too) → other ≡ 0 → others ≡ vendored_line (length pairs_too) ∷ []
+      → more ≡ copied_files to_too pairs_too → SameEnd status other lines others files more
+  both_vendored to to_too pairs pairs_too v s l f w t m g =
+      let configs = (one_config words tree Vendor Vendor v.config w.config v.is_config w.is_config).one_config in
+      let folders = one_folder words to to_too v.asks w.asks in
+      let plan : IsPlan tree to (generation_paths tree v.config) pairs_too =
+      subst (λ c. IsPlan tree to (generation_paths tree c) pairs_too) (sym configs)
+      (subst (λ path. IsPlan tree path (generation_paths tree w.config) pairs_too) (sym folders) w.is_plan) in
+      let same = one_plan tree to (generation_paths tree v.config) pairs pairs_too v.is_plan plan in
+      record {
+        one_status = s ∙ sym t;
+        same_lines = l ∙ (ap (λ ps. vendored_line (length ps) ∷ []) same ∙ sym m);
+        same_files = f ∙ ((λ i. copied_files (folders i) (same i)) ∙ sym g);
+      }
+
+  -- what is written is no copy
+  written_and_vendored :
+      (command : Command) (config : Config) (map : List ℕ) (new : List NewFile) (to : List ℕ) (pairs : List Pair)
+      → IsConfigOf words tree command config → Writes tree config map command new → Vendors words tree to pairs → ⊥
+  written_and_vendored command config map new to pairs is wrote v =
+      subst SaysCounts (one_config words tree command Vendor config v.config is v.is_config).one_command
+      (writes_count tree config map command new wrote)
+
   -- what is listed isn't checked
   checked_and_listed :
       (config second : Config) → IsConfigOf words tree Check config → IsConfigOf words tree Lists second → ⊥
@@ -305,6 +349,22 @@ one_run_refusal words tree why because (runs.by_tree command config reason is_co
 one_run_refusal words tree why because (runs.by_tree command config reason is_config is) (runs.by_tree command_too second other is_too too) =
     let same = one_config words tree command command_too config second is_config is_too in
     one_refusal tree config command why because is (same_refusals tree because same too)
+one_run_refusal words tree why because (runs.by_copies to config map reason asks is generates refused_so) (runs.by_words other too) = absurd (words_refused_or_config words tree other Vendor config too is)
+one_run_refusal words tree why because (runs.by_copies to config map reason asks is generates refused_so) (runs.by_project other too) = absurd (refused_or_config words tree other Vendor config too is)
+one_run_refusal words tree why because (runs.by_copies to config map reason asks is generates refused_so) (runs.by_tree command second other is_too too) =
+    absurd (refused_or_generated tree map because (one_config words tree command Vendor second config is_too is) too opens.nothing_first generates)
+one_run_refusal words tree why because (runs.by_copies to config map reason asks is generates refused_so) (runs.by_measure number other asks_too too) = absurd (measured_or_config words tree number Vendor config asks_too is)
+one_run_refusal words tree why because (runs.by_words fault is_too) (runs.by_copies to config map reason asks is generates refused_so) = absurd (words_refused_or_config words tree fault Vendor config is_too is)
+one_run_refusal words tree why because (runs.by_project fault is_too) (runs.by_copies to config map reason asks is generates refused_so) = absurd (refused_or_config words tree fault Vendor config is_too is)
+one_run_refusal words tree why because (runs.by_tree command second other is_too too) (runs.by_copies to config map reason asks is generates refused_so) =
+    absurd (refused_or_generated tree map why (one_config words tree command Vendor second config is_too is) too opens.nothing_first generates)
+one_run_refusal words tree why because (runs.by_measure number other asks_too too) (runs.by_copies to config map reason asks is generates refused_so) = absurd (measured_or_config words tree number Vendor config asks_too is)
+one_run_refusal words tree why because (runs.by_copies to config map reason asks is generates refused_so) (runs.by_copies to_too second map_too other asks_too is_too generates_too too) =
+    let configs = (one_config words tree Vendor Vendor config second is is_too).one_config in
+    let folders = one_folder words to to_too asks asks_too in
+    one_copy_refusal tree to (generation_paths tree config) why because refused_so
+    (subst (λ c. RefusesCopies tree to (generation_paths tree c) because) (sym configs)
+    (subst (λ path. RefusesCopies tree path (generation_paths tree second) because) (sym folders) too))
 
 config_is_plain : (words : List (List ℕ)) (tree : Tree) (command : Command) (config : Config) → IsConfigOf words tree command config → IsPlain words
 config_is_plain words tree command config is = command_is_plain words command (command_is words tree command (Ok config) is)
@@ -313,18 +373,21 @@ run_is_plain : (words : List (List ℕ)) (tree : Tree) (why : Refusal) → Refus
 run_is_plain words tree why (runs.by_words fault is) = refused_is_plain words fault is
 run_is_plain words tree why (runs.by_project fault is) = command_is_plain words is.command (command_is words tree is.command (Err fault) is.configures)
 run_is_plain words tree why (runs.by_tree command config reason is_config is) = config_is_plain words tree command config is_config
+run_is_plain words tree why (runs.by_copies to config map reason asks is generates refused_so) = config_is_plain words tree Vendor config is
 run_is_plain words tree why (runs.by_measure number reason asks is) = measured_is_plain words number asks
 
 -- what is refused isn't written
 pub refused_or_written :
     (words : List (List ℕ)) (tree : Tree) (why : Refusal) (command : Command) (config : Config) (map : List ℕ)
     → RefusesRun words tree why → IsConfigOf words tree command config → Opens tree config command
-    → Generates tree config map → ⊥
-refused_or_written words tree why command config map (runs.by_words fault is) is_config opened generates = words_refused_or_config words tree fault command config is is_config
-refused_or_written words tree why command config map (runs.by_project fault is) is_config opened generates = refused_or_config words tree fault command config is is_config
-refused_or_written words tree why command config map (runs.by_tree other second reason is_too is) is_config opened generates =
+    → Generates tree config map → SaysCounts command → ⊥
+refused_or_written words tree why command config map (runs.by_words fault is) is_config opened generates counts = words_refused_or_config words tree fault command config is is_config
+refused_or_written words tree why command config map (runs.by_project fault is) is_config opened generates counts = refused_or_config words tree fault command config is is_config
+refused_or_written words tree why command config map (runs.by_tree other second reason is_too is) is_config opened generates counts =
     refused_or_generated tree map why (one_config words tree other command second config is_too is_config) is opened generates
-refused_or_written words tree why command config map (runs.by_measure number reason asks is) is_config opened generates = measured_or_config words tree number command config asks is_config
+refused_or_written words tree why command config map (runs.by_measure number reason asks is) is_config opened generates counts = measured_or_config words tree number command config asks is_config
+refused_or_written words tree why command config map (runs.by_copies to second map_too reason asks is generates_too refused_so) is_config opened generates counts =
+    subst SaysCounts (one_config words tree command Vendor config second is_config is).one_command counts
 
 refused_or_checked_too :
     (words : List (List ℕ)) (tree : Tree) (why : Refusal) (config : Config) (map : ParsedMap) (all : Gathered)
@@ -335,6 +398,8 @@ refused_or_checked_too words tree why config map all (runs.by_project fault is) 
 refused_or_checked_too words tree why config map all (runs.by_tree other second reason is_too is) is_config holds traces =
     let same = one_config words tree Check other config second is_config is_too in
     refused_or_checked tree config why map all (same_refusals tree why same is) holds traces
+refused_or_checked_too words tree why config map all (runs.by_copies to second map_too reason asks is generates refused_so) is_config holds traces =
+    two_commands words tree Check Vendor config second is_config is (λ same. absurd (cc))
 refused_or_checked_too words tree why config map all (runs.by_measure number reason asks is) is_config holds traces = measured_or_config words tree number Check config asks is_config
 
 refused_or_listed_too :
@@ -345,6 +410,8 @@ refused_or_listed_too words tree why config all (runs.by_project fault is) is_co
 refused_or_listed_too words tree why config all (runs.by_tree other second reason is_too is) is_config traces =
     let same = one_config words tree Lists other config second is_config is_too in
     refused_or_listed tree config why all (same_refusals tree why same is) traces
+refused_or_listed_too words tree why config all (runs.by_copies to second map_too reason asks is generates refused_so) is_config traces =
+    two_commands words tree Lists Vendor config second is_config is (λ same. absurd (cc))
 refused_or_listed_too words tree why config all (runs.by_measure number reason asks is) is_config traces = measured_or_config words tree number Lists config asks is_config
 
 refused_or_explained_too :
@@ -355,6 +422,8 @@ refused_or_explained_too words tree why config all (runs.by_project fault is) is
 refused_or_explained_too words tree why config all (runs.by_tree other second reason is_too is) is_config traces =
     let same = one_config words tree Why other config second is_config is_too in
     refused_or_explained tree config why all (same_refusals tree why same is) traces
+refused_or_explained_too words tree why config all (runs.by_copies to second map_too reason asks is generates refused_so) is_config traces =
+    two_commands words tree Why Vendor config second is_config is (λ same. absurd (cc))
 refused_or_explained_too words tree why config all (runs.by_measure number reason asks is) is_config traces = measured_or_config words tree number Why config asks is_config
 
 refused_or_measured :
@@ -363,9 +432,27 @@ refused_or_measured :
 refused_or_measured words tree why number map (runs.by_words fault is) asks generates = measured_or_refused words tree number fault asks is
 refused_or_measured words tree why number map (runs.by_project fault is) asks generates = measured_or_no_config words tree number fault asks is
 refused_or_measured words tree why number map (runs.by_tree command config reason is_config is) asks generates = measured_or_config words tree number command config asks is_config
+refused_or_measured words tree why number map (runs.by_copies to config map_too reason asks_too is generates_too refused_so) asks generates = measured_or_config words tree number Vendor config asks is
 refused_or_measured words tree why number map (runs.by_measure other reason asks_too is) asks generates =
     refused_or_opened_and_generated (tree_of number) measure_config Refresh why map (same_measure words tree number other why asks asks_too is)
     (opens.nothing Refresh mapping.refresh) generates
+
+-- and isn't copied
+pub refused_or_vendored :
+    (words : List (List ℕ)) (tree : Tree) (why : Refusal) (to : List ℕ) (pairs : List Pair) → RefusesRun words tree why
+    → Vendors words tree to pairs → ⊥
+refused_or_vendored words tree why to pairs (runs.by_words fault is) v = words_refused_or_config words tree fault Vendor v.config is v.is_config
+refused_or_vendored words tree why to pairs (runs.by_project fault is) v = refused_or_config words tree fault Vendor v.config is v.is_config
+refused_or_vendored words tree why to pairs (runs.by_tree other second reason is_too is) v =
+    refused_or_generated tree v.map why (one_config words tree other Vendor second v.config is_too v.is_config) is opens.nothing_first v.generates
+refused_or_vendored words tree why to pairs (runs.by_measure number reason asks is) v = measured_or_config words tree number Vendor v.config asks v.is_config
+refused_or_vendored words tree why to pairs (runs.by_copies to_too second map reason asks is generates refused_so) v =
+    let configs = (one_config words tree Vendor Vendor v.config second v.is_config is).one_config in
+    let folders = one_folder words to to_too v.asks asks in
+    refused_or_copied tree to (generation_paths tree v.config) pairs why
+    (subst (λ c. RefusesCopies tree to (generation_paths tree c) why) (sym configs)
+    (subst (λ path. RefusesCopies tree path (generation_paths tree second) why) (sym folders) refused_so))
+    v.free v.is_plan
 
 module _ (words : List (List ℕ)) (tree : Tree) (status other : ℕ) (lines others : List (List ℕ)) (files more : List NewFile) (plain : IsPlain words) where
   both :
@@ -376,7 +463,7 @@ module _ (words : List (List ℕ)) (tree : Tree) (status other : ℕ) (lines oth
   both (refused why is s l f) (refused because too t m g) =
       same_refusal words tree status other lines others files more why because (one_run_refusal words tree why because is too) s l f t m g
   both (refused why is s l f) (written command config map is_config generates wrote t m) =
-      absurd (refused_or_written words tree why command config map is is_config (written_is_opened tree config map more command wrote) generates)
+      absurd (refused_or_written words tree why command config map is is_config (written_is_opened tree config map more command wrote) generates (writes_count tree config map command more wrote))
   both (refused why is s l f) (checked config map all is_config holds traces t m g) =
       absurd (refused_or_checked_too words tree why config map all is is_config holds traces)
   both (refused why is s l f) (listed config all is_config traces t m g) =
@@ -401,7 +488,7 @@ module _ (words : List (List ℕ)) (tree : Tree) (status other : ℕ) (lines oth
       both_measured words tree status other lines others files more number second map map_too
       ((words_are_judged words).one_measure number second asks asks_too) generates s l f too t m g
   both (written command config map is_config generates wrote s l) (refused because too t m g) =
-      absurd (refused_or_written words tree because command config map too is_config (written_is_opened tree config map files command wrote) generates)
+      absurd (refused_or_written words tree because command config map too is_config (written_is_opened tree config map files command wrote) generates (writes_count tree config map command files wrote))
   both (written command config map is_config generates wrote s l) (written command_too second map_too is_too too wrote_too t m) =
       both_written words tree status other lines others files more command command_too config second map map_too is_config generates wrote s l is_too too wrote_too t m
   both (written command config map is_config generates wrote s l) (checked second map_too all is_too holds traces t m g) =
@@ -446,6 +533,30 @@ module _ (words : List (List ℕ)) (tree : Tree) (status other : ℕ) (lines oth
       absurd (measured_or_config words tree number Why config asks_too is)
   both (explained path config all asks is traces tells f) (explained path_too second all_too asks_too is_too traces_too tells_too g) =
       both_explained words tree status other lines others files more path path_too config second asks is tells f asks_too is_too tells_too g
+  both (refused why is s l f) (vendored to pairs v t m g) = absurd (refused_or_vendored words tree why to pairs is v)
+  both (written command config map is generates wrote s l) (vendored to pairs v t m g) =
+      absurd (written_and_vendored words tree status other lines others files more command config map files to pairs is wrote v)
+  both (checked config map all is holds traces s l f) (vendored to pairs v t m g) =
+      absurd (two_commands words tree Check Vendor config v.config is v.is_config (λ same. absurd (cc)))
+  both (listed config all is traces s l f) (vendored to pairs v t m g) =
+      absurd (two_commands words tree Lists Vendor config v.config is v.is_config (λ same. absurd (cc)))
+  both (explained path config all asks is traces tells f) (vendored to pairs v t m g) =
+      absurd (two_commands words tree Why Vendor config v.config is v.is_config (λ same. absurd (cc)))
+  both (measured number map asks generates s l f) (vendored to pairs v t m g) =
+      absurd (measured_or_config words tree number Vendor v.config asks v.is_config)
+  both (vendored to pairs v s l f) (refused because too t m g) = absurd (refused_or_vendored words tree because to pairs too v)
+  both (vendored to pairs v s l f) (written command config map is generates wrote t m) =
+      absurd (written_and_vendored words tree status other lines others files more command config map more to pairs is wrote v)
+  both (vendored to pairs v s l f) (checked config map all is holds traces t m g) =
+      absurd (two_commands words tree Check Vendor config v.config is v.is_config (λ same. absurd (cc)))
+  both (vendored to pairs v s l f) (listed config all is traces t m g) =
+      absurd (two_commands words tree Lists Vendor config v.config is v.is_config (λ same. absurd (cc)))
+  both (vendored to pairs v s l f) (explained path config all asks is traces tells g) =
+      absurd (two_commands words tree Why Vendor config v.config is v.is_config (λ same. absurd (cc)))
+  both (vendored to pairs v s l f) (measured number map asks generates t m g) =
+      absurd (measured_or_config words tree number Vendor v.config asks v.is_config)
+  both (vendored to pairs v s l f) (vendored to_too pairs_too w t m g) =
+      both_vendored words tree status other lines others files more to to_too pairs pairs_too v s l f w t m g
 
 pub one_outcome : OneOutcome
 one_outcome words tree status other lines others after last plain one two =
@@ -465,6 +576,7 @@ no_meaning_status words tree status lines files none (refused why is s l f) = ab
 no_meaning_status words tree status lines files none (written command config map is generates wrote s l) = absurd (none (config_is_plain words tree command config is))
 no_meaning_status words tree status lines files none (checked config map all is holds traces s l f) = absurd (none (config_is_plain words tree Check config is))
 no_meaning_status words tree status lines files none (explained path config all asks is traces tells f) = absurd (none (config_is_plain words tree Why config is))
+no_meaning_status words tree status lines files none (vendored to pairs v s l f) = absurd (none (config_is_plain words tree Vendor v.config v.is_config))
 no_meaning_status words tree status lines files none (measured number map asks generates s l f) = absurd (none (measured_is_plain words number asks))
 no_meaning_status words tree status lines files none (listed config all is traces s l f) = absurd (none (config_is_plain words tree Lists config is))
 
@@ -483,7 +595,7 @@ record CanWrite (tree : Tree) (command : Command) (config : Config) (map : List 
   writes : Writes tree config map command files
   placed : FilesPlaced tree files after
 
-module _ (words : List (List ℕ)) (tree : Tree) (is_tree : IsTree tree) where
+module _ (words : List (List ℕ)) (tree : Tree) (is_tree : IsTree tree) (unblocked : IsBlocked words tree → ⊥) where
   -- above a path at which something stands are folders
   above_stands : (path folder : List ℕ) (entry : Entry) → get tree path ≡ Some entry → IsAbove folder path → get tree folder ≡ Some Directory
   above_stands _ _ entry is (parent_of above path p) = is_tree.parents above path entry is p
@@ -586,6 +698,58 @@ module _ (words : List (List ℕ)) (tree : Tree) (is_tree : IsTree tree) where
       by_chain config is all e file.path (subst (Asks words) file.is is.asks)
       (some_explanation (get tree) config file.path all e)
 
+  module _ (to : List ℕ) (asks : VendorsTo words to) (config : Config) (is : IsConfigOf words tree Vendor config)
+      (map : List ℕ) (generates : Generates tree config map) where
+    abbrev paths : List (List ℕ)
+    paths = generation_paths tree config
+
+    not_copied : (why : Refusal) → RefusesCopies tree to paths why → HasOutcome words tree
+    not_copied why refused_so = by_why why (runs.by_copies to config map why asks is generates refused_so)
+
+    by_copies : (to_is : IsPath to) (to_deep : to ≢ codes "/") (free : get tree to ≡ None) (pairs : List Pair)
+        → IsPlan tree to paths pairs → HasOutcome words tree
+    by_copies to_is to_deep free pairs plan =
+        let made = some_copied tree to paths pairs is_tree to_is to_deep free
+        (λ file bytes stands above. unblocked (record { to = to; asks = asks; file = file; bytes = bytes; stands = stands; above = above }))
+        plan in
+        record {
+          status = 0;
+          lines = vendored_line (length pairs) ∷ [];
+          after = made.0;
+          outcome =
+              record {
+                files = copied_files to pairs;
+                comes =
+                    vendored to pairs
+                    (record { asks = asks; config = config; is_config = is; map = map; generates = generates; free = free; is_plan = plan })
+                    refl refl refl;
+                placed = files_placed to pairs tree made.0 made.1;
+              };
+        }
+
+    by_folder : (to_is : IsPath to) (to_deep : to ≢ codes "/") (found : Option Entry) → get tree to ≡ found → HasOutcome words tree
+    by_folder to_is to_deep (Some entry) e = not_copied (Occupied to) (copies.occupied entry e)
+    by_folder to_is to_deep None e =
+        elim (some_plan tree to paths is_tree to_is to_deep) [
+          | inl has ↦ not_copied PathTooLong (copies.long e has)
+          | inr more ↦ elim more [
+            | inl has ↦ not_copied TooManySegments (copies.deep e has.0 has.1)
+            | inr plan ↦ by_copies to_is to_deep e plan.0 plan.1
+          ]
+        ]
+
+  by_vendor : (config : Config) → IsConfigOf words tree Vendor config → (all : Gathered) → traced (get tree) config ≡ Ok all → HasOutcome words tree
+  by_vendor config is all e =
+      let found = some_generation tree config all e in by_generated found.0 found.2
+    where
+      by_generated : (map : List ℕ) → Generates tree config map ⊎ IsTooWide tree config ⊎ IsTooLarge tree config → HasOutcome words tree
+      by_generated map (inr (inl wide)) = by_refusal Vendor config is (Limit Choices) (refuses.many_choices Vendor tt opens.nothing_first wide)
+      by_generated map (inr (inr large)) = by_refusal Vendor config is (Limit Map) (refuses.large_map Vendor tt opens.nothing_first large)
+      by_generated map (inl generates) =
+          let folder = vendor_copies is.asked is.is in
+          let own = path_vendored folder.path Vendor (subst (λ a. command_of a ≡ Some Vendor) folder.is is.is) in
+          by_folder folder.path (subst (Asks words) folder.is is.asks) config is map generates own.is_path own.no_root (get tree folder.path) refl
+
   by_trace : (command : Command) (config : Config) → IsConfigOf words tree command config → (opened : Opens tree config command) → (all : Gathered) → traced (get tree) config ≡ Ok all → HasOutcome words tree
   by_trace command config is (opens.nothing _ mapping.link) all e =
       by_generation command config is tt (opens.nothing Link mapping.link)
@@ -607,6 +771,7 @@ module _ (words : List (List ℕ)) (tree : Tree) (is_tree : IsTree tree) where
   by_trace command config is (opens.has_map map holds) all e = by_check config is map holds all e
   by_trace command config is opens.no_file all e = by_list config is all e
   by_trace command config is opens.no_other_file all e = by_explanation config is all e
+  by_trace command config is opens.nothing_first all e = by_vendor config is all e
   by_trace command config is (opens.no_base text stands nameless) all e = absurd (traced_is_named (get tree) config all nameless e)
 
   by_result : (command : Command) (config : Config) → IsConfigOf words tree command config → Opens tree config command → (found : Result Gathered TraceFault) → traced (get tree) config ≡ found → HasOutcome words tree
@@ -644,4 +809,4 @@ module _ (words : List (List ℕ)) (tree : Tree) (is_tree : IsTree tree) where
   by_judgement other (judgement.configured command config is) = by_opening command config is (opened_or_refused tree config command)
 
 pub some_outcome : SomeOutcome
-some_outcome words tree other is_tree = by_judgement words tree is_tree other (judged words tree)
+some_outcome words tree other unblocked is_tree = by_judgement words tree is_tree unblocked other (judged words tree)

@@ -24,7 +24,7 @@ use Rattle.trace_spec.specs.Walking.{the_page}
 use Rattle.trace_spec.specs.Checks.{Gathered}
 use Rattle.trace_spec.specs.Traces.{traced}
 use Rattle.config_spec.specs.declared.Command.{Command}
-use Rattle.config_spec.specs.declared.Command.TheVariants.{Link, Unlink, Refresh, Inject, Check, Why}
+use Rattle.config_spec.specs.declared.Command.TheVariants.{Link, Unlink, Refresh, Inject, Check, Why, Vendor}
 use Rattle.config_spec.specs.declared.Command.TheVariants.{List as Lists}
 use Rattle.generator_spec.specs.declared.MapFileFault.{MapFileFault}
 use Rattle.generator_spec.specs.declared.MapFileFault.TheVariants as map_file
@@ -313,6 +313,7 @@ module _ (tree : Tree) (config : Config) where
   opened_or_refused Check = by_map_entry map_found refl
   opened_or_refused Lists = inl opens.no_file
   opened_or_refused Why = inl opens.no_other_file
+  opened_or_refused Vendor = inl opens.nothing_first
 
 -- ---- what is written
 

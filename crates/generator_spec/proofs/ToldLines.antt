@@ -96,6 +96,9 @@ refusal_is_another (refusal.Limit which) =
 refusal_is_another (refusal.Page why) = page_is_another why
 refusal_is_another (refusal.MapFile why) = map_file_is_another why
 refusal_is_another (refusal.Trace why) = trace_is_another why
+refusal_is_another (refusal.Occupied path) = other_line 114 (line_of (refusal.Occupied path)) refl (λ e. omega arith)
+refusal_is_another refusal.PathTooLong = other_line 108 (line_of refusal.PathTooLong) refl (λ e. omega arith)
+refusal_is_another refusal.TooManySegments = other_line 108 (line_of refusal.TooManySegments) refl (λ e. omega arith)
 
 -- a front that begins so is of a line that does
 first_of_front : (count : ℕ) (line : List ℕ) → first_byte (take count line) ≡ 111 → first_byte line ≡ 111
@@ -183,6 +186,7 @@ module _ (words : List (List ℕ)) (before after : FolderState) (status : ℕ) (
   shaped_line plain (shaped.checked is) = checked_line is
   shaped_line plain (shaped.listed is) = inr (done is.ends)
   shaped_line plain (shaped.explained is) = explained_line is.config is.path is.tells
+  shaped_line plain (shaped.vendored is) = inr (done is.ends)
   shaped_line plain (shaped.measured is) = inr (done is.ends)
 
   said_line : IsPlain words → Says words before after status lines → IsAnother (concat lines) ⊎ WasDone
@@ -191,6 +195,8 @@ module _ (words : List (List ℕ)) (before after : FolderState) (status : ℕ) (
   said_line plain (says.read_fault command is_command s t k rose w) =
       inl (other_text read_fault_line lines t (other_line 102 read_fault_line refl (λ e. omega arith)))
   said_line plain (says.write_fault line counted stops s t l rose) =
+      inl (other_text write_fault_line lines t (other_line 102 write_fault_line refl (λ e. omega arith)))
+  said_line plain (says.copy_fault able stops s t l rose) =
       inl (other_text write_fault_line lines t (other_line 102 write_fault_line refl (λ e. omega arith)))
 
   pub end_tells :

@@ -6,8 +6,10 @@
 --                              that a limit ends asks for no path behind it, which isn't said here
 --     IsConfigAt words command config state      a told tree gives the words this config; whatever is told, they can
 --                              have it
+--     HasMap config holds      a map is generated for the config, where the tree is told
 --     AsksInOrder words before old after      what the folder is asked for in the whole run, at most
 use Rattle.std.specs.Prelude.{◌≡◌, ◌⊎◌, ◌++◌, [], ◌∷◌, ℕ, List, bytes_eq, All, Contains, Option, Some, IfSome}
+use Rattle.std.specs.Prelude.{option_map}
 use Rattle.std.specs.FinMap.{get}
 use Rattle.std.specs.List.{IsDistinct}
 use Rattle.tree_spec.specs.LookAskings.{footprint}
@@ -16,10 +18,12 @@ use Rattle.tree_spec.specs.Trees.{Tree}
 use Rattle.trace_spec.specs.Modules.{Config}
 use Rattle.trace_spec.specs.Traces.{generation}
 use Rattle.config_spec.specs.declared.Command.{Command}
-use Rattle.config_spec.specs.declared.Command.TheVariants.{Link, Unlink, Refresh, Inject, Check, Why}
+use Rattle.config_spec.specs.declared.Command.TheVariants.{Link, Unlink, Refresh, Inject, Check, Why, Vendor}
 use Rattle.config_spec.specs.declared.Command.TheVariants.{List as Lists}
 use Rattle.config_spec.specs.Projects.{project_path, IsConfigOf, IsConfigFor}
+use Rattle.config_spec.specs.Words.{VendorsTo}
 use Rattle.generator_spec.specs.Commands.{map_path}
+use Rattle.generator_spec.specs.Generation.{Generates}
 
 abbrev pub own_file : Command → Config → List (List ℕ)
 own_file Link config = []
@@ -29,6 +33,7 @@ own_file Inject config = config.page ∷ []
 own_file Check config = map_path ∷ []
 own_file Lists config = []
 own_file Why config = []
+own_file Vendor config = []
 
 pub record AsksOwn (own old : List (List ℕ)) (after : FolderState) : Type 0 where
   pub first : List (List ℕ)
@@ -49,8 +54,12 @@ pub record IsConfigAt (words : List (List ℕ)) (command : Command) (config : Co
   pub told : IfSome state.holds (λ tree. IsConfigOf words tree command config)
   pub can : IsConfigFor words command config
 
+-- own: a told tree has a map for the config
+abbrev pub HasMap : Config → Option Tree → Type 0
+HasMap config holds = IfSome holds (λ tree. (map : List ℕ) × Generates tree config map)
+
 -- own: the folder is asked for the project's path, or for nothing; and where there is a config, behind that for what
--- its command and the generation need
+-- its command and the generation need; and where copies are asked for and a map is generated, last for their folder
 pub data AsksInOrder (words : List (List ℕ)) (before : FolderState) (old : List (List ℕ))
     (after : FolderState) : Type 0 where
   own : AsksOwn (project_path ∷ []) old after → AsksInOrder words before old after
@@ -58,3 +67,8 @@ pub data AsksInOrder (words : List (List ℕ)) (before : FolderState) (old : Lis
       (first : List (List ℕ)) → (first ≡ []) ⊎ (first ≡ project_path ∷ []) → (command : Command) (config : Config)
       → IsConfigAt words command config before
       → AsksFew config before.holds (own_file command config) (old ++ first) after → AsksInOrder words before old after
+  behind :
+      (first : List (List ℕ)) → (first ≡ []) ⊎ (first ≡ project_path ∷ []) → (to : List ℕ) (config : Config)
+      → VendorsTo words to → IsConfigAt words Vendor config before → HasMap config before.holds
+      → (middle : FolderState) → AsksFew config before.holds (own_file Vendor config) (old ++ first) middle
+      → after.asked ≡ option_map (λ paths. paths ++ to ∷ []) middle.asked → AsksInOrder words before old after

@@ -1,5 +1,6 @@
 -- What a command needs before its trace, why it is refused, and what it writes.
 --     IsGenerating command                the command generates a map
+--     SaysCounts command                  the command writes the map that it generates, and says how much that has
 --     IsPage tree config page             the page's file, which has no more bytes than a file may
 --     RefusesPage tree config fault       there is no page to put a map into
 --     map_path, map_file_limit            the path of the map's file, and how many bytes that may have
@@ -37,7 +38,7 @@ use Rattle.trace_spec.specs.Modules.{Config, web_name}
 use Rattle.trace_spec.specs.Traces.{traced}
 use Rattle.trace_spec.specs.Walking.{the_page}
 use Rattle.config_spec.specs.declared.Command.{Command}
-use Rattle.config_spec.specs.declared.Command.TheVariants.{Link, Unlink, Refresh, Inject, Check, Why}
+use Rattle.config_spec.specs.declared.Command.TheVariants.{Link, Unlink, Refresh, Inject, Check, Why, Vendor}
 use Rattle.config_spec.specs.declared.Command.TheVariants.{List as Lists}
 use Rattle.generator_spec.specs.declared.MapFileFault.{MapFileFault}
 use Rattle.generator_spec.specs.declared.MapFileFault.TheVariants as map_fault
@@ -58,6 +59,18 @@ IsGenerating Inject = ⊤
 IsGenerating Check = ⊥
 IsGenerating Lists = ⊥
 IsGenerating Why = ⊥
+IsGenerating Vendor = ⊤
+
+-- own: `vendor` generates, and writes copies alone
+abbrev pub SaysCounts : Command → Type 0
+SaysCounts Link = ⊤
+SaysCounts Unlink = ⊤
+SaysCounts Refresh = ⊤
+SaysCounts Inject = ⊤
+SaysCounts Check = ⊥
+SaysCounts Lists = ⊥
+SaysCounts Why = ⊥
+SaysCounts Vendor = ⊥
 
 -- ---- the page
 
@@ -135,6 +148,7 @@ pub data Opens (tree : Tree) (config : Config) : Command → Type 0 where
   no_base : (text : List ℕ) → IsMapText tree text → web_name config the_page ≡ None → Opens tree config Check
   no_file : Opens tree config Lists
   no_other_file : Opens tree config Why
+  nothing_first : Opens tree config Vendor
 
 -- own: the command's file comes before the trace, and behind it a specifier's choices, and then the size of the map
 pub data Refuses (tree : Tree) (config : Config) : Command → Refusal → Type 0 where

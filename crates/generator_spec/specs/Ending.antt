@@ -5,6 +5,7 @@
 --     MapServes words tree           the map that is there serves
 --     HasModules words tree          there is a trace, whose modules can be listed
 --     IsLoaded words tree            requests lead from the page to the file that is asked for
+--     HasCopied words tree told      the files that the map needs were copied, and the copy has the same map
 --     IsMeasured words               there is a map of the stated tree
 --     Says words before after status lines      why a command ends with this status and these lines
 --     Ends status text out out_after result     the text went out and the status is answered, or the output failed
@@ -24,14 +25,16 @@ use Rattle.trace_spec.specs.Checks.{Gathered}
 use Rattle.trace_spec.specs.Modules.{Config}
 use Rattle.trace_spec.specs.Traces.{traced}
 use Rattle.config_spec.specs.declared.Command.{Command}
-use Rattle.config_spec.specs.declared.Command.TheVariants.{Link, Unlink, Refresh, Inject, Check, Why}
+use Rattle.config_spec.specs.declared.Command.TheVariants.{Link, Unlink, Refresh, Inject, Check, Why, Vendor}
 use Rattle.config_spec.specs.declared.Command.TheVariants.{List as Lists}
 use Rattle.config_spec.specs.declared.ConfigFault.{ConfigFault}
 use Rattle.generator_spec.specs.declared.Refusal.{Refusal}
 use Rattle.generator_spec.specs.declared.Refusal.TheVariants.{Config as Configured}
 use Rattle.generator_spec.specs.Checking.{check_status, check_lines}
-use Rattle.generator_spec.specs.Commands.{IsGenerating, IsMapText, Opens, IsRefusalOf, NewFile, Writes}
+use Rattle.generator_spec.specs.Commands.{SaysCounts, IsMapText, Opens, IsRefusalOf, NewFile, Writes}
+use Rattle.generator_spec.specs.CopiedMaps.{IsVendored}
 use Rattle.generator_spec.specs.Explaining.{asked_by, is_at}
+use Rattle.generator_spec.specs.Vendoring.{CanCopy, IsCopyRefusal, Vendors, copied_files}
 use Rattle.generator_spec.specs.Generation.{PageIsFile, Generates}
 use Rattle.generator_spec.specs.Serves.{Serves, KnowsModules, IsSmallest}
 use Rattle.generator_spec.specs.Statuses.{done_status, words_status, read_fault_status, write_fault_status}
@@ -39,7 +42,8 @@ use Rattle.generator_spec.specs.Statuses.{memory_status, not_reached_status}
 use Rattle.config_spec.specs.Words.{AsksWhy, IsCommandOf, IsPlain, Measures, RefusesWords}
 use Rattle.config_spec.specs.Projects.{IsConfigOf, IsConfigFor, CanRefuseConfig, measure_config}
 use Rattle.generator_spec.specs.Lines.{status_of, line_of, counts_line, done_line, differs_line, module_line}
-use Rattle.generator_spec.specs.Lines.{measure_line, from_page_line, asks_line, not_reached_line}
+use Rattle.generator_spec.specs.Lines.{measure_line, vendored_line, from_page_line, asks_line, not_reached_line}
+use Rattle.vendor_spec.specs.Vendored.{Pair, IsBelow}
 use Rattle.workload_spec.specs.Packages.{tree_of}
 use Rattle.generator_spec.specs.Lines.{memory_line, read_fault_line, write_fault_line}
 use Rattle.generator_spec.specs.Outcome.{FilesPlaced, Outcome}
@@ -70,6 +74,7 @@ IsCarried Inject map file = IsOneMap map file.bytes
 IsCarried Check map file = ⊥
 IsCarried Lists map file = ⊥
 IsCarried Why map file = ⊥
+IsCarried Vendor map file = ⊥
 
 -- own: the command's files are written, of which one carries the map, which is generation's on the tree before, and
 -- through it each request of the page and of each module that the page reaches leads to the file that Node's resolver
@@ -114,6 +119,17 @@ pub record IsLoaded (words : List (List ℕ)) (tree : Tree) : Type 0 where
   pub numbers : List ℕ
   pub shortest : IsShortest (asked_by (get tree) config) (is_at config path) numbers
 
+-- own: copies of the files of the generation's footprint were written where nothing stood, and nothing else was changed;
+-- the tree below the folder has these files alone, and for it the map is generated that is generated for the old tree
+pub record HasCopied (words : List (List ℕ)) (tree : Tree) (told : Option Tree) : Type 0 where
+  pub to : List ℕ
+  pub pairs : List Pair
+  pub vendors : Vendors words tree to pairs
+  pub written : AreWritten tree (copied_files to pairs) told
+  pub vendored :
+      (below : Tree) → IsBelow written.after to below
+      → IsVendored tree vendors.config to written.after below vendors.map
+
 -- own: it is asked to measure a stated tree, for which a map is generated
 pub record IsMeasured (words : List (List ℕ)) : Type 0 where
   pub number : ℕ
@@ -122,23 +138,24 @@ pub record IsMeasured (words : List (List ℕ)) : Type 0 where
   pub generates : Generates (tree_of number) measure_config map
 
 -- own: the map was written; or the map that is there serves, or the modules were listed, or it was told how a file
--- comes to be loaded, or a stated tree was measured, and nothing was written
+-- comes to be loaded, or a stated tree was measured, and nothing was written; or copies were
 pub data IsDone (words : List (List ℕ)) (tree : Tree) (told : Option Tree) : Type 0 where
   linked : Linked words tree told → IsDone words tree told
   served : MapServes words tree → told ≡ Some tree → IsDone words tree told
   listed : HasModules words tree → told ≡ Some tree → IsDone words tree told
   explained : IsLoaded words tree → told ≡ Some tree → IsDone words tree told
+  vendored : HasCopied words tree told → IsDone words tree told
   measured : IsMeasured words → told ≡ Some tree → IsDone words tree told
 
 -- ---- what is said
 
--- own: the words can have this config of a command that generates, and the line is that of a map that is written, with
+-- own: the words can have this config of a command that writes a map, and the line is that of a map that is written, with
 -- some counts
 pub record IsCounted (words : List (List ℕ)) (line : List ℕ) : Type 0 where
   pub command : Command
   pub config : Config
   pub is_config : IsConfigFor words command config
-  pub generating : IsGenerating command
+  pub counting : SaysCounts command
   pub modules : ℕ
   pub requests : ℕ
   pub mappings : ℕ
@@ -215,6 +232,13 @@ pub record IsExplanation (words : List (List ℕ)) (status : ℕ) (lines : List 
   pub is_config : IsConfigFor words Why config
   pub tells : TellsChain config path status lines
 
+-- own: the line is that of some number of copies
+pub record IsCopyCount (words : List (List ℕ)) (status : ℕ) (lines : List (List ℕ)) : Type 0 where
+  pub can : CanCopy words
+  pub count : ℕ
+  pub ends : status ≡ done_status
+  pub says : lines ≡ vendored_line count ∷ []
+
 -- own: the line is that of a measure of as many packages as the words ask for, with some counts
 pub record IsMeasuring (words : List (List ℕ)) (status : ℕ) (lines : List (List ℕ)) : Type 0 where
   pub number : ℕ
@@ -232,11 +256,12 @@ pub data CanRefuse (words : List (List ℕ)) : Refusal → Type 0 where
   by_tree :
       (command : Command) (config : Config) (why : Refusal) → IsConfigFor words command config
       → IsRefusalOf config command why → CanRefuse words why
+  by_copies : (can : CanCopy words) (why : Refusal) → IsCopyRefusal can.to why → CanRefuse words why
   by_measure :
       (number : ℕ) (why : Refusal) → Measures words number → IsRefusalOf measure_config Refresh why → CanRefuse words why
 
 -- own: status and lines belong together, whatever the folder tells: they are those of words without a meaning, of a
--- refusal, of a map that is written, of a check, of a list, of a chain of requests, or of a measure
+-- refusal, of a map that is written, of a check, of a list, of a chain of requests, of copies, or of a measure
 pub data Shaped (words : List (List ℕ)) (status : ℕ) (lines : List (List ℕ)) : Type 0 where
   not_plain :
       (text : List ℕ) → (IsPlain words → ⊥) → status ≡ words_status → lines ≡ text ∷ [] → Shaped words status lines
@@ -247,6 +272,7 @@ pub data Shaped (words : List (List ℕ)) (status : ℕ) (lines : List (List ℕ
   checked : IsChecked words status lines → Shaped words status lines
   listed : IsListing words status lines → Shaped words status lines
   explained : IsExplanation words status lines → Shaped words status lines
+  vendored : IsCopyCount words status lines → Shaped words status lines
   measured : IsMeasuring words status lines → Shaped words status lines
 
 -- own: there is a map, whose files were written up to one of them, with which this line would have been said; it serves
@@ -263,9 +289,18 @@ pub record StopsWriting (words : List (List ℕ)) (tree : Tree) (line : List ℕ
   pub fewer : count < length files
   pub written : AreWritten tree (take count files) told
 
+-- own: copies were written up to one of them
+pub record StopsCopying (words : List (List ℕ)) (tree : Tree) (told : Option Tree) : Type 0 where
+  pub to : List ℕ
+  pub pairs : List Pair
+  pub vendors : Vendors words tree to pairs
+  pub count : ℕ
+  pub fewer : count < length pairs
+  pub written : AreWritten tree (take count (copied_files to pairs)) told
+
 -- own: the command has the outcome that is defined, and no fault was counted; or there is want of memory, or a fault
 -- that was counted. Then the tree is as it was, or where a write failed those before it were made. A look fails only
--- where the words ask for a command, and a write only where there is a map to write
+-- where the words ask for a command, and a write only where there is a map to write, or copies are
 pub data Says (words : List (List ℕ)) (before after : FolderState) (status : ℕ) (lines : List (List ℕ)) : Type 0 where
   outcome :
       Shaped words status lines
@@ -283,6 +318,11 @@ pub data Says (words : List (List ℕ)) (before after : FolderState) (status : �
       → after.write_faults ≡ before.write_faults → Says words before after status lines
   write_fault :
       (line : List ℕ) → IsCounted words line → IfSome before.holds (λ tree. StopsWriting words tree line after.holds)
+      → status ≡ write_fault_status → lines ≡ write_fault_line ∷ []
+      → after.look_faults ≡ before.look_faults → Rose before.write_faults after.write_faults
+      → Says words before after status lines
+  copy_fault :
+      CanCopy words → IfSome before.holds (λ tree. StopsCopying words tree after.holds)
       → status ≡ write_fault_status → lines ≡ write_fault_line ∷ []
       → after.look_faults ≡ before.look_faults → Rose before.write_faults after.write_faults
       → Says words before after status lines

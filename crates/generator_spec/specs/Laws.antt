@@ -16,6 +16,7 @@ use Rattle.generator_spec.specs.Digests.{with_digests}
 use Rattle.generator_spec.specs.Explaining.{asked_by, referrer_of}
 use Rattle.generator_spec.specs.Generation.{Generates, IsTooWide, IsTooLarge, map_base}
 use Rattle.generator_spec.specs.Outcome.{Outcome}
+use Rattle.generator_spec.specs.Vendoring.{IsBlocked}
 use Rattle.generator_spec.specs.Ending.{EndsAs}
 use Rattle.generator_spec.specs.Promises.{Promises}
 
@@ -81,10 +82,11 @@ pub record HasOutcome (words : List (List ℕ)) (tree : Tree) : Type 0 where
   pub after : Tree
   pub outcome : Outcome words tree status lines after
 
--- words over a tree have an outcome, unless they ask for a session
+-- words over a tree have an outcome, unless they ask for a session, or for copies below a file
 abbrev pub SomeOutcome : Type 0
 SomeOutcome =
-    (words : List (List ℕ)) (tree : Tree) → (IsSession words → ⊥) → IsTree tree → HasOutcome words tree
+    (words : List (List ℕ)) (tree : Tree) → (IsSession words → ⊥) → (IsBlocked words tree → ⊥) → IsTree tree
+    → HasOutcome words tree
 
 -- ---- ends
 

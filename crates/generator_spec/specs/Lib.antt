@@ -9,6 +9,7 @@ pub mod Lines
 pub mod Checking
 pub mod Listing
 pub mod Explaining
+pub mod Vendoring
 pub mod Outcome
 pub mod Asked
 pub mod Steps

@@ -19,6 +19,7 @@
 --     limit_line which      the line of this limit, with its number
 --     part_name part      the name of a part of an import map
 --     module_line name requests      the line of a module, by its path with its suffix
+--     vendored_line count      the line of so many copies
 --     from_page_line path            the line of the page, from which a chain of requests leads
 --     asks_line specifier name       the line of a request of a chain, with the module that it leads to
 --     not_reached_line path          the line of a path to which no chain leads
@@ -54,9 +55,11 @@ use Rattle.config_spec.specs.declared.ProjectFault.TheVariants as project
 use Rattle.generator_spec.specs.declared.PageFault.{PageFault}
 use Rattle.generator_spec.specs.declared.PageFault.TheVariants.{Absent, TooLarge, KeepsMapsOut}
 use Rattle.generator_spec.specs.declared.Refusal.{Refusal}
-use Rattle.generator_spec.specs.declared.Refusal.TheVariants.{Page, MapFile, Trace}
+use Rattle.generator_spec.specs.declared.Refusal.TheVariants.{Page, MapFile, Trace, Occupied, PathTooLong}
+use Rattle.generator_spec.specs.declared.Refusal.TheVariants.{TooManySegments}
 use Rattle.generator_spec.specs.declared.Refusal.TheVariants.{Config as Configured}
 use Rattle.generator_spec.specs.declared.Refusal.TheVariants as refusal
+use Rattle.vendor_spec.specs.Goals.{most_path_bytes, most_path_segments}
 use Rattle.generator_spec.specs.Commands.{map_file_limit}
 use Rattle.generator_spec.specs.Statuses.{refused_status, words_status, limit_status, read_fault_status, file_status}
 use Rattle.generator_spec.specs.Statuses.{memory_status}
@@ -110,6 +113,9 @@ status_of (refusal.Limit which) = limit_status
 status_of (Page fault) = page_status fault
 status_of (MapFile fault) = map_file_status fault
 status_of (Trace fault) = trace_status fault
+status_of (Occupied path) = refused_status
+status_of PathTooLong = limit_status
+status_of TooManySegments = limit_status
 
 abbrev pub end_of_line : List ℕ
 end_of_line = 10 ∷ []
@@ -231,6 +237,9 @@ line_of (refusal.Limit which) = limit_line which
 line_of (Page fault) = page_line fault
 line_of (MapFile fault) = map_file_line fault
 line_of (Trace fault) = trace_line fault
+line_of (Occupied path) = text_line (codes "refused: Occupied ") path
+line_of PathTooLong = above_line (codes "path") most_path_bytes
+line_of TooManySegments = above_line (codes "segments") most_path_segments
 
 -- own: so many modules, requests and mappings
 abbrev pub counts_line : ℕ → ℕ → ℕ → List ℕ
@@ -277,6 +286,11 @@ differences_line count = decimal count ++ (codes " differences" ++ end_of_line)
 -- own: path and suffix as one text, and the number of requests
 abbrev pub module_line : List ℕ → ℕ → List ℕ
 module_line name requests = quoted name ++ (codes " " ++ (decimal requests ++ end_of_line))
+
+-- ---- what is said of copies
+
+abbrev pub vendored_line : ℕ → List ℕ
+vendored_line count = codes "vendored " ++ (decimal count ++ (codes " files" ++ end_of_line))
 
 -- ---- what is said of a chain
 

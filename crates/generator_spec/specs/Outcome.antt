@@ -12,35 +12,44 @@ use Rattle.trace_spec.specs.Checks.{Gathered}
 use Rattle.trace_spec.specs.Modules.{Config}
 use Rattle.trace_spec.specs.Traces.{traced}
 use Rattle.config_spec.specs.declared.Command.{Command}
-use Rattle.config_spec.specs.declared.Command.TheVariants.{Check, Why, List as Lists}
+use Rattle.config_spec.specs.declared.Command.TheVariants.{Check, Why, Vendor, List as Lists}
 use Rattle.config_spec.specs.declared.ConfigFault.{ConfigFault}
 use Rattle.generator_spec.specs.declared.Refusal.{Refusal}
 use Rattle.generator_spec.specs.declared.Refusal.TheVariants.{Config as Configured}
 use Rattle.generator_spec.specs.Checking.{difference_lines, check_status, check_lines}
 use Rattle.generator_spec.specs.Listing.{list_lines}
+use Rattle.generator_spec.specs.CopiedMaps.{generation_paths}
 use Rattle.generator_spec.specs.Explaining.{SaysWhy}
+use Rattle.generator_spec.specs.Vendoring.{copied_files, RefusesCopies, Vendors}
 use Rattle.generator_spec.specs.Commands.{HoldsMap, Refuses, NewFile, Writes}
 use Rattle.generator_spec.specs.Generation.{Generates}
 use Rattle.generator_spec.specs.Statuses.{done_status, words_status}
-use Rattle.config_spec.specs.Words.{AsksWhy, IsPlain, Measures, RefusesWords}
+use Rattle.config_spec.specs.Words.{AsksWhy, IsPlain, Measures, RefusesWords, VendorsTo}
 use Rattle.config_spec.specs.Projects.{IsConfigOf, RefusesConfig, measure_config}
-use Rattle.generator_spec.specs.Lines.{status_of, line_of, done_line, measured_line}
+use Rattle.generator_spec.specs.Lines.{status_of, line_of, done_line, measured_line, vendored_line}
 use Rattle.generator_spec.specs.Measuring.{RefusesMeasure}
+use Rattle.vendor_spec.specs.Vendored.{Pair}
 use Rattle.workload_spec.specs.Packages.{tree_of}
 
 -- own: a refusal comes of the words, or else of the project, or else of what the command needs, or else it is the first
--- one of the trace, or that of a specifier with too many choices, or else of a map that is too large; or it is that of a measure. It writes nothing
+-- one of the trace, or that of a specifier with too many choices, or else of a map that is too large, or else of copies;
+-- or it is that of a measure. It writes nothing
 pub data RefusesRun (words : List (List ℕ)) (tree : Tree) : Refusal → Type 0 where
   by_words : (fault : ConfigFault) → RefusesWords words fault → RefusesRun words tree (Configured fault)
   by_project : (fault : ConfigFault) → RefusesConfig words tree fault → RefusesRun words tree (Configured fault)
   by_tree :
       (command : Command) (config : Config) (why : Refusal) → IsConfigOf words tree command config
       → Refuses tree config command why → RefusesRun words tree why
+  by_copies :
+      (to : List ℕ) (config : Config) (map : List ℕ) (why : Refusal) → VendorsTo words to
+      → IsConfigOf words tree Vendor config → Generates tree config map
+      → RefusesCopies tree to (generation_paths tree config) why → RefusesRun words tree why
   by_measure : (number : ℕ) (why : Refusal) → Measures words number → RefusesMeasure number why → RefusesRun words tree why
 
 -- own: a refusal writes nothing. Where nothing is refused, the command's files are written, with the map that is
 -- generated; or it is said which of the trace's needs the map that is there doesn't serve, or which modules it has, or
--- by which requests the page comes to load a file, if it does.
+-- by which requests the page comes to load a file, if it does. Where copies are asked for, the files of the generation's
+-- footprint are written below the folder, in byte order, and it is said how many.
 -- A measure says how much is generated for its own tree, whatever the folder holds. Words without a meaning are answered
 -- with some text
 pub data ComesTo (words : List (List ℕ)) (tree : Tree) (status : ℕ) (lines : List (List ℕ))
@@ -67,6 +76,10 @@ pub data ComesTo (words : List (List ℕ)) (tree : Tree) (status : ℕ) (lines :
   explained :
       (path : List ℕ) (config : Config) (all : Gathered) → AsksWhy words path → IsConfigOf words tree Why config
       → traced (get tree) config ≡ Ok all → SaysWhy (get tree) config path status lines → files ≡ []
+      → ComesTo words tree status lines files
+  vendored :
+      (to : List ℕ) (pairs : List Pair) → Vendors words tree to pairs → status ≡ done_status
+      → lines ≡ vendored_line (length pairs) ∷ [] → files ≡ copied_files to pairs
       → ComesTo words tree status lines files
   measured :
       (number : ℕ) (map : List ℕ) → Measures words number → (generates : Generates (tree_of number) measure_config map)

@@ -23,7 +23,7 @@ use Rattle.config_spec.specs.declared.ConfigFault.{ConfigFault}
 use Rattle.config_spec.specs.Words.{IsPlain, RefusesWords}
 use Rattle.generator_spec.specs.Lines.{status_of, counts_line, served_line, memory_line}
 use Rattle.generator_spec.specs.Outcome.{Outcome}
-use Rattle.generator_spec.specs.Ending.{CanRefuse, IsDone, StopsWriting, Gives, TellsRefusal}
+use Rattle.generator_spec.specs.Ending.{CanRefuse, IsDone, StopsWriting, StopsCopying, Gives, TellsRefusal}
 
 -- own: a front of one text went out; and of plain words, a byte of the line of a command that was done only where it
 -- was
@@ -106,10 +106,10 @@ pub record Untouched (before after : FolderState) : Type 0 where
   pub looks : after.look_faults ≡ before.look_faults
   pub writes : after.write_faults ≡ before.write_faults
 
--- own: there is a map whose files were written up to one of them
-pub record HasStopped (words : List (List ℕ)) (tree : Tree) (told : Option Tree) : Type 0 where
-  pub line : List ℕ
-  pub stops : StopsWriting words tree line told
+-- own: there is a map whose files were written up to one of them, or copies were
+pub data HasStopped (words : List (List ℕ)) (tree : Tree) (told : Option Tree) : Type 0 where
+  writing : (line : List ℕ) → StopsWriting words tree line told → HasStopped words tree told
+  copying : StopsCopying words tree told → HasStopped words tree told
 
 -- own: the words have no meaning, or are refused with their status, or there is no base
 abbrev pub AreWrong : List (List ℕ) → Type 0

@@ -3,7 +3,7 @@
 --                                               so many modules and requests that they are no fewer than the steps
 --     MeasureSpends number out out_after before after      the same of the line of a measure
 --     RunSpends words out out_after result before after      no more steps than its line tells, where a command that
---                                               generates is done, or a measure, and the output tells what it took;
+--                                               writes a map is done, or a measure, and the output tells what it took;
 --                                               never more than there may be modules and requests; and none where the
 --                                               words ask for no command and no measure
 use Rattle.std.specs.Prelude.{◌≡◌, ◌≤◌, ◌+◌, ◌++◌, ℕ, List, option_map}
@@ -12,7 +12,7 @@ use Rattle.tree_spec.specs.Limits.{limit_number}
 use Rattle.tree_spec.specs.States.{SinkState}
 use Rattle.config_spec.specs.declared.Command.{Command}
 use Rattle.config_spec.specs.Words.{IsCommandOf, Measures}
-use Rattle.generator_spec.specs.Commands.{IsGenerating}
+use Rattle.generator_spec.specs.Commands.{SaysCounts}
 use Rattle.generator_spec.specs.Lines.{counts_line, measure_line}
 use Rattle.generator_spec.specs.Statuses.{done_status}
 
@@ -32,11 +32,11 @@ pub record MeasureSpends (number : ℕ) (out out_after : SinkState) (before afte
   pub said : out_after.got ≡ option_map (λ front. front ++ measure_line number modules requests mappings) out.got
   pub few : after ≤ before + (modules + requests)
 
--- own: `told` where a command that generates answers 0, `measured` where a measure does, `bounded` however the run ends,
+-- own: `told` where a command that writes a map answers 0, `measured` where a measure does, `bounded` however the run ends,
 -- `unspent` where the words ask for neither
 pub record RunSpends (words : List (List ℕ)) (out out_after : SinkState) (result before after : ℕ) : Type 0 where
   pub told :
-      (command : Command) → IsCommandOf words command → IsGenerating command → result ≡ done_status
+      (command : Command) → IsCommandOf words command → SaysCounts command → result ≡ done_status
       → SpendsFew out out_after before after
   pub measured :
       (number : ℕ) → Measures words number → result ≡ done_status → MeasureSpends number out out_after before after

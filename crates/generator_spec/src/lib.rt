@@ -55,6 +55,12 @@ pub enum Refusal {
     MapFile { fault: MapFileFault },
     /// There is no trace.
     Trace { fault: TraceFault },
+    /// Something stands where copies are to stand.
+    Occupied { path: Text },
+    /// The path of some copy has too many bytes.
+    PathTooLong,
+    /// None has, and the path of some copy has too many segments.
+    TooManySegments,
 }
 
 /// A tree and a config have one text at most.

@@ -15,6 +15,7 @@ use primitives::{Memory, Text};
 use std::alloc::Global;
 use trace_spec::{AskCause, TraceFault};
 use tree_spec::LimitName;
+use vendor_spec::{MOST_PATH_BYTES, MOST_PATH_SEGMENTS};
 
 /// The line of words that have no meaning, though they can be parsed.
 pub fn not_plain_line() -> &'static [u8]
@@ -172,6 +173,14 @@ pub fn not_reached_line(alloc: Global, path: &str) -> Result<Vec<u8>, Memory>
     text_line(alloc, "not reached: ", path)
 }
 
+/// The line of so many copies.
+pub fn vendored_line(alloc: Global, count: usize) -> Result<Vec<u8>, Memory>
+    ensures { IfOk result (λ line. line.items ≡ spec.vendored_line count) }
+{
+    let line = format!(in alloc; "vendored {count} files\n")?;
+    Ok(line.into_bytes())
+}
+
 /// The line that tells of a refusal.
 pub fn line_of(alloc: Global, refusal: &Refusal) -> Result<Vec<u8>, Memory>
     ensures { IfOk result (λ line. line.items ≡ spec.line_of refusal.now) }
@@ -182,7 +191,18 @@ pub fn line_of(alloc: Global, refusal: &Refusal) -> Result<Vec<u8>, Memory>
         Refusal::Page { fault } => page_line(alloc, *fault),
         Refusal::MapFile { fault } => map_file_line(alloc, *fault),
         Refusal::Trace { fault } => trace_line(alloc, fault),
+        Refusal::Occupied { path } => text_line(alloc, "refused: Occupied ", path.as_str()),
+        Refusal::PathTooLong => path_line(alloc, "path", MOST_PATH_BYTES),
+        Refusal::TooManySegments => path_line(alloc, "segments", MOST_PATH_SEGMENTS),
     }
+}
+
+// The name of what a path has too much of, and the most that it has.
+fn path_line(alloc: Global, name: &str, most: usize) -> Result<Vec<u8>, Memory>
+    ensures { IfOk result (λ line. line.items ≡ spec.above_line name.now most) }
+{
+    let line = format!(in alloc; "limit: {name} above {most}\n")?;
+    Ok(line.into_bytes())
 }
 
 fn config_line(alloc: Global, fault: &ConfigFault) -> Result<Vec<u8>, Memory>

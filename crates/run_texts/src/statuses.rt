@@ -21,7 +21,7 @@ pub const MEMORY: u8 = 8;
 /// No chain of requests leads to the file.
 pub const NOT_REACHED: u8 = 10;
 
-/// A request, a module or the page is refused.
+/// A request, a module or the page is refused, or something stands where copies are to.
 const REFUSED: u8 = 1;
 /// A limit is passed.
 const LIMIT: u8 = 3;
@@ -38,6 +38,9 @@ pub fn status_of(refusal: &Refusal) -> u8
         Refusal::Page { fault } => page_status(*fault),
         Refusal::MapFile { fault } => map_file_status(*fault),
         Refusal::Trace { fault } => trace_status(fault),
+        Refusal::Occupied { path: _ } => REFUSED,
+        Refusal::PathTooLong => LIMIT,
+        Refusal::TooManySegments => LIMIT,
     }
 }
 

@@ -12,7 +12,7 @@ use Rattle.config_spec.proofs.FaultsOfWords.{faults_are_of_words}
 use Rattle.config_spec.proofs.WordsJudged.{words_are_judged}
 use Rattle.config_spec.specs.Projects.{IsConfigOf}
 use Rattle.config_spec.specs.declared.Command.{Command}
-use Rattle.config_spec.specs.declared.Command.TheVariants.{Refresh}
+use Rattle.config_spec.specs.declared.Command.TheVariants.{Refresh, Vendor}
 use Rattle.generator_spec.proofs.Configs.{command_is}
 use Rattle.generator_spec.specs.Commands.{IsRefusalOf, IsRefusalOf as kind, Refuses, Refuses as refuses}
 use Rattle.generator_spec.specs.Ending.{CanRefuse, CanRefuse as can}
@@ -44,6 +44,9 @@ can_refuse tree _ (runs.by_tree command config why is refuses_it) =
     let same = (words_are_judged refresh_words).one_command command Refresh (command_is refresh_words tree command (Ok config) is) asks_anew in
     let anew : IsConfigOf refresh_words tree Refresh config = subst (λ (c : Command). IsConfigOf refresh_words tree c config) same is in
     can.by_tree Refresh config why (configs_are_projects refresh_words tree Refresh config anew) (refuses_by tree config command why same refuses_it)
+can_refuse tree _ (runs.by_copies to config map why asks is generates refuses_it) =
+    let same : Vendor ≡ Refresh = (words_are_judged refresh_words).one_command Vendor Refresh (command_is refresh_words tree Vendor (Ok config) is) asks_anew in
+    absurd (cc)
 can_refuse tree _ (runs.by_measure number why asks is) = absurd ((words_are_judged refresh_words).no_command number Refresh asks asks_anew)
 
 -- ---- replies

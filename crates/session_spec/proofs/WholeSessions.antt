@@ -53,7 +53,7 @@ module _ (tree : Tree) where
 
   refused_or_opened : (why : Refusal) (state : SessionState) → RefusesRun refresh_words tree why → OpensAt tree state → ⊥
   refused_or_opened why _ refuses (opens config map counts is generated) =
-      refused_or_written refresh_words tree why Refresh config map refuses is (nothing Refresh refresh) generated.generates
+      refused_or_written refresh_words tree why Refresh config map refuses is (nothing Refresh refresh) generated.generates tt
 
   same_replies : (input : List ℕ) (state other : SessionState) (out said : List ℕ) (status second : ℕ) → state ≡ other → Answers state input out status → Answers other input said second
       → SameAnswer (opening_line state ++ out) (opening_line other ++ said) status second

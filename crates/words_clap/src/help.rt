@@ -15,6 +15,8 @@ pub(crate) const AFTER: &str = "Examples, in the folder of the site:
       print the modules in the order in which they are first asked for
   salimgub why /node_modules/lit/index.js
       say by which imports the page comes to this file
+  salimgub vendor /out
+      copy the files that the map needs, and no others, into a new folder out
   salimgub measure 200
       show that the program runs, and how fast, on 200 packages in memory
 
@@ -25,8 +27,8 @@ Options of link, before the entries, each at most once:
 
 Status:
   0  done
-  1  refused: an import leads to no module, the page has no place for the map, or
-     unlink names what is no entry
+  1  refused: an import leads to no module, the page has no place for the map,
+     unlink names what is no entry, or there is something where vendor is to copy to
   2  the words can't be used, or help was asked for
   3  a limit is passed
   4  reading failed
@@ -52,6 +54,8 @@ pub(crate) const LIST: &str = "Print the modules, each with the number of its re
 
 pub(crate) const WHY: &str = "Print the shortest chain of imports from the page to a file";
 
+pub(crate) const VENDOR: &str = "Copy the files that the map needs, and no others, to a new folder";
+
 pub(crate) const SESSION: &str =
     "Keep the map current: read edits from the standard input, and reply to each";
 
@@ -72,5 +76,7 @@ pub(crate) const ENTRIES: &str =
 pub(crate) const UNLINKED: &str = "What the page no longer imports, written as it was linked";
 
 pub(crate) const FILE: &str = "The file's path below this folder, as /lib/words.mjs";
+
+pub(crate) const FOLDER: &str = "The new folder's path below this folder, as /out";
 
 pub(crate) const NUMBER: &str = "How many packages, from 1 to 2000";

@@ -21,6 +21,7 @@ pub fn command<'a>(alloc: Global) -> Result<Command<'a>, AllocError>
         .subcommand(plain(alloc, "check", help::CHECK))?
         .subcommand(plain(alloc, "list", help::LIST))?
         .subcommand(why(alloc)?)?
+        .subcommand(vendor(alloc)?)?
         .subcommand(plain(alloc, "session", help::SESSION))?
         .subcommand(measure(alloc)?)
 }
@@ -63,7 +64,18 @@ fn why<'a>(alloc: Global) -> Result<Command<'a>, AllocError>
     ensures app { IfOk result (λ command. app_of command ≡ path_command (codes "why")) }
     ensures local { IfOk result (λ command. (fields_of command).has_globals ≡ false) }
 {
-    Command::new(alloc, "why").about(help::WHY).arg(path(alloc))
+    Command::new(alloc, "why")
+        .about(help::WHY)
+        .arg(path(alloc, help::FILE))
+}
+
+fn vendor<'a>(alloc: Global) -> Result<Command<'a>, AllocError>
+    ensures app { IfOk result (λ command. app_of command ≡ path_command (codes "vendor")) }
+    ensures local { IfOk result (λ command. (fields_of command).has_globals ≡ false) }
+{
+    Command::new(alloc, "vendor")
+        .about(help::VENDOR)
+        .arg(path(alloc, help::FOLDER))
 }
 
 fn measure<'a>(alloc: Global) -> Result<Command<'a>, AllocError>
@@ -102,14 +114,14 @@ fn entries<'a>(alloc: Global, about: &'a str) -> Arg<'a>
         .help(about)
 }
 
-fn path<'a>(alloc: Global) -> Arg<'a>
+fn path<'a>(alloc: Global, about: &'a str) -> Arg<'a>
     ensures rule { rule_of result ≡ path_rule }
     ensures local { result.global ≡ false }
 {
     Arg::new(alloc, "path")
         .value_name("PATH")
         .required(true)
-        .help(help::FILE)
+        .help(about)
 }
 
 fn number<'a>(alloc: Global) -> Arg<'a>

@@ -9,7 +9,7 @@ use Rattle.std.specs.Int.Digits.{digits_of}
 use Rattle.std.specs.List.{All, fold, list_all}
 use Rattle.std.proofs.Common.{◌≡◌, ◌≢◌, ◌<◌, ◌+◌, ◌&&◌, ℕ, List, [], ◌∷◌, ◌++◌, append-nil, append_assoc, codes, length, map, Option, Some, true, false, is_some, refl, sym, ap, ap₂, ◌∙◌, subst, arith}
 use Rattle.std.proofs.lemmas.Fmt.{decimal-digits_of, decimal_nonempty}
-use Rattle.words_spec.specs.PlainWords.{Asked, Asks, IsValue, LinkOptions, LinkWords, no_options, linking, unlinking, explaining, measuring, link, unlink, refresh, check, list, inject, session, why, measure}
+use Rattle.words_spec.specs.PlainWords.{Asked, Asks, IsValue, LinkOptions, LinkWords, no_options, linking, unlinking, explaining, vendoring, measuring, link, unlink, refresh, check, list, inject, session, why, vendor, measure}
 use Rattle.words_clap_spec.specs.Holding.{Holds, HoldsLink, row}
 use Rattle.words_clap_spec.specs.Laws.{HelpIsAskedFor, PlainWordsAreHeld, PlainWordsPass, ProgramIsSimple}
 use Rattle.words_clap_spec.specs.Program.{program}
@@ -52,6 +52,10 @@ unlink_stops rest = stops (codes "unlink") [] rest
 why_stops : (rest : List Text) → fold (walked whole.top.rules names) (walk_from nothing_held) (codes "why" ∷ rest) ≡ stop (codes "why") rest
 unfolding clap_on_literals
 why_stops rest = stops (codes "why") [] rest
+
+vendor_stops : (rest : List Text) → fold (walked whole.top.rules names) (walk_from nothing_held) (codes "vendor" ∷ rest) ≡ stop (codes "vendor") rest
+unfolding clap_on_literals
+vendor_stops rest = stops (codes "vendor") [] rest
 
 measure_stops : (rest : List Text) → fold (walked whole.top.rules names) (walk_from nothing_held) (codes "measure" ∷ rest) ≡ stop (codes "measure") rest
 unfolding clap_on_literals
@@ -107,6 +111,17 @@ why_taken (b ∷ bs) is =
           ∙ ap (λ rows. Some (codes "why", rows)) (path_rows_found (codes "why") b bs ne);
     }
 
+vendor_taken : (path : Text) → IsValue path → Taken (codes "vendor" ∷ path ∷ []) (vendoring path)
+unfolding clap_on_literals
+vendor_taken [] is = absurd (is.nonempty refl)
+vendor_taken (b ∷ bs) is =
+    let ne = no_hyphen_first b bs is in
+    record {
+      is_taken = above_passes (codes "vendor") ((b ∷ bs) ∷ []) (vendor_stops ((b ∷ bs) ∷ [])) (stop_passes (codes "vendor") [] ((b ∷ bs) ∷ [])) (path_level (codes "vendor") b bs ne) refl;
+      held = rows_below (codes "vendor") ((b ∷ bs) ∷ []) (vendor_stops ((b ∷ bs) ∷ []))
+          ∙ ap (λ rows. Some (codes "vendor", rows)) (path_rows_found (codes "vendor") b bs ne);
+    }
+
 number_taken : (number : ℕ) (b : ℕ) (bs : List ℕ) → decimal number ≡ b ∷ bs → b ≢ 45 → Taken (codes "measure" ∷ (b ∷ bs) ∷ []) (measuring number)
 unfolding clap_on_literals
 number_taken number b bs is ne = record {
@@ -133,6 +148,7 @@ taken list = record { is_taken = refl; held = refl }
 taken inject = record { is_taken = refl; held = refl }
 taken session = record { is_taken = refl; held = refl }
 taken (why path is) = why_taken path is
+taken (vendor path is) = vendor_taken path is
 taken (measure number least most) =
     measure_taken number (decimal number) (digits_of 10 number) refl (decimal-digits_of number least (omega arith)) (decimal_nonempty number (omega arith))
 

@@ -14,7 +14,7 @@ use Rattle.std.specs.Prelude.{◌≡◌, ℕ, List, [], ◌∷◌, codes, Bool, 
 use Rattle.words_spec.specs.declared.LinkOption.{LinkOption}
 use Rattle.words_spec.specs.declared.LinkOption.TheVariants.{Base, Page, Conditions}
 use Rattle.words_spec.specs.PlainWords.{Asked, LinkOptions, value_of, linking, unlinking, refreshing, checking, listing}
-use Rattle.words_spec.specs.PlainWords.{injecting, editing, explaining, measuring}
+use Rattle.words_spec.specs.PlainWords.{injecting, editing, explaining, vendoring, measuring}
 use Rattle.words_clap_spec.specs.Program.{entries_rule}
 
 -- values are read as the texts that they are
@@ -52,4 +52,5 @@ Holds listing found = found ≡ Some (codes "list", [])
 Holds injecting found = found ≡ Some (codes "inject", [])
 Holds editing found = found ≡ Some (codes "session", [])
 Holds (explaining path) found = found ≡ Some (codes "why", row (codes "path") (path ∷ []) ∷ [])
+Holds (vendoring path) found = found ≡ Some (codes "vendor", row (codes "path") (path ∷ []) ∷ [])
 Holds (measuring number) found = found ≡ Some (codes "measure", row (codes "number") (decimal number ∷ []) ∷ [])

@@ -48,8 +48,8 @@ plain_command name = new_app name
 -- own: in the order of the help's text
 abbrev pub program : App
 program =
-    with_subcommand (with_subcommand (with_subcommand (with_subcommand (with_subcommand
+    with_subcommand (with_subcommand (with_subcommand (with_subcommand (with_subcommand (with_subcommand
     (with_subcommand (with_subcommand (with_subcommand (with_subcommand top
     link_command.top) unlink_command.top) (plain_command (codes "refresh")).top) (plain_command (codes "inject")).top)
     (plain_command (codes "check")).top) (plain_command (codes "list")).top) (path_command (codes "why")).top)
-    (plain_command (codes "session")).top) measure_command.top
+    (path_command (codes "vendor")).top) (plain_command (codes "session")).top) measure_command.top

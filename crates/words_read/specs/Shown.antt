@@ -10,7 +10,7 @@ use Rattle.words_read.specs.declared.command.Command.TheVariants as command
 use Rattle.words_read.specs.declared.spelling.Spelling.{Spelling}
 use Rattle.words_read.specs.declared.spelling.Spelling.TheVariants as spelling
 use Rattle.words_spec.specs.PlainWords.{Asked, Asks, LinkOptions, linking, unlinking, refreshing, checking, listing}
-use Rattle.words_spec.specs.PlainWords.{injecting, editing, explaining, measuring}
+use Rattle.words_spec.specs.PlainWords.{injecting, editing, explaining, vendoring, measuring}
 use Rattle.words_spec.specs.Reading as reading
 
 abbrev pub options_of : LinkValues → LinkOptions
@@ -34,6 +34,7 @@ shown command.List = listing
 shown command.Inject = injecting
 shown command.Session = editing
 shown (command.Why path) = explaining path.now
+shown (command.Vendor path) = vendoring path.now
 shown (command.Measure number) = measuring number
 
 abbrev pub AsksNothing : List (List ℕ) → Type 0

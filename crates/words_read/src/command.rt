@@ -28,6 +28,8 @@ pub enum Command<'a> {
     Session,
     /// To print how the page comes to load the file at this path.
     Why(&'a str),
+    /// To copy what the map needs into this folder.
+    Vendor(&'a str),
     /// To generate over a tree of this size.
     Measure(u64),
 }

@@ -1,6 +1,6 @@
 ghost use Rattle.std.specs.Prelude.{◌≡◌, MatchOption, map, string_bytes, option_map};
 ghost use Rattle.words_read.specs.Shown.{AsksNothing, options_of, shown};
-ghost use Rattle.words_spec.specs.PlainWords.{Asks, explaining, no_options};
+ghost use Rattle.words_spec.specs.PlainWords.{Asks, explaining, no_options, vendoring};
 ghost use Rattle.words_spec.specs.Reading as reading;
 
 use crate::command::{Command, LinkValues};
@@ -32,6 +32,9 @@ fn reading_of(words: &[String]) -> Option<Command<'_>>
     }
     if command == "why" {
         return why_of(rest);
+    }
+    if command == "vendor" {
+        return vendor_of(rest);
     }
     if !rest.is_empty() {
         return None;
@@ -77,6 +80,16 @@ fn why_of(words: &[String]) -> Option<Command<'_>>
         return None;
     }
     Some(Command::Why(path.as_str()))
+}
+
+fn vendor_of(words: &[String]) -> Option<Command<'_>>
+    ensures { option_map shown result ≡ reading.path_reading vendoring (map string_bytes words.now) }
+{
+    let (path, rest) = words.split_first()?;
+    if !rest.is_empty() || !is_value(path.as_str()) {
+        return None;
+    }
+    Some(Command::Vendor(path.as_str()))
 }
 
 fn plain_command(command: &str) -> Option<Command<'_>>

@@ -12,7 +12,7 @@ use Rattle.std.proofs.lemmas.Slice.Eq.{bytes_eq-Decides}
 use Rattle.words_spec.specs.declared.LinkOption.{LinkOption}
 use Rattle.words_spec.specs.declared.LinkOption.TheVariants.{Base, Page, Conditions}
 use Rattle.words_spec.specs.Laws.{ReadingIsExact}
-use Rattle.words_spec.specs.PlainWords.{Asked, Asks, IsValue, LinkOptions, LinkWords, no_options, spelled, value_of, with_value, linking, unlinking, explaining, measuring, entries, two_words, one_word, link, unlink, refresh, check, list, inject, session, why, measure}
+use Rattle.words_spec.specs.PlainWords.{Asked, Asks, IsValue, LinkOptions, LinkWords, no_options, spelled, value_of, with_value, linking, unlinking, explaining, vendoring, measuring, entries, two_words, one_word, link, unlink, refresh, check, list, inject, session, why, vendor, measure}
 use Rattle.words_spec.specs.Reading.{Spelling, no_option, alone, joined, behind, by_spelling, entries_reading, is_value, link_reading, measure_reading, next_number, number_in, one_more, or_else, path_reading, plain_command, reading_of, spelling_as, spelling_by, spelling_of, unlink_reading, with_number, without_more}
 use Rattle.words_spec.proofs.PlainIsRead.{plain_is_read}
 use Rattle.words_spec.proofs.Values.{passed_value, passed_values}
@@ -210,16 +210,19 @@ unlink_back (word ∷ rest) asked is = by_test (list_all is_value (word ∷ rest
         subst (λ a. Asks (codes "unlink" ∷ word ∷ rest) a) (let same : unlinking (word ∷ rest) ≡ asked = cc in same)
         (unlink word rest (passed_values (word ∷ rest) pass))
 
-why_back : (words : List (List ℕ)) (asked : Asked) → path_reading explaining words ≡ Some asked → Asks (codes "why" ∷ words) asked
-why_back [] asked is = absurd (let bad : None ≡ Some asked = is in cc)
-why_back (path ∷ more ∷ rest) asked is = absurd (let bad : None ≡ Some asked = is in cc)
-why_back (path ∷ []) asked is = by_test (is_value path) refl is
+-- a command that takes a path
+path_back :
+    (name : List ℕ) (of : List ℕ → Asked) → ((path : List ℕ) → IsValue path → Asks (name ∷ path ∷ []) (of path))
+    → (words : List (List ℕ)) (asked : Asked) → path_reading of words ≡ Some asked → Asks (name ∷ words) asked
+path_back name of asks [] asked is = absurd (let bad : None ≡ Some asked = is in cc)
+path_back name of asks (path ∷ more ∷ rest) asked is = absurd (let bad : None ≡ Some asked = is in cc)
+path_back name of asks (path ∷ []) asked is = by_test (is_value path) refl is
   where
-    by_test : (pass : Bool) → is_value path ≡ pass → (if pass then Some (explaining path) else None) ≡ Some asked → Asks (codes "why" ∷ path ∷ []) asked
+    by_test : (pass : Bool) → is_value path ≡ pass → (if pass then Some (of path) else None) ≡ Some asked → Asks (name ∷ path ∷ []) asked
     by_test false pass is = absurd (let bad : None ≡ Some asked = is in cc)
     by_test true pass is =
-        subst (λ a. Asks (codes "why" ∷ path ∷ []) a) (let same : explaining path ≡ asked = cc in same)
-        (why path (passed_value path pass))
+        subst (λ a. Asks (name ∷ path ∷ []) a) (let same : of path ≡ asked = cc in same)
+        (asks path (passed_value path pass))
 
 -- a choice by the text of the first word
 by_name : (name command : List ℕ) (rest : List (List ℕ)) (asked : Asked) (chosen other : Option Asked) → (chosen ≡ Some asked → Asks (name ∷ rest) asked) → (other ≡ Some asked → Asks (command ∷ rest) asked) → (if bytes_eq command name then chosen else other) ≡ Some asked → Asks (command ∷ rest) asked
@@ -252,8 +255,9 @@ read_is_plain (command ∷ rest) asked is =
     by_name (codes "link") command rest asked _ _ (λ read. link (link_back rest None no_options asked read))
     (by_name (codes "unlink") command rest asked _ _ (unlink_back rest asked)
     (by_name (codes "measure") command rest asked _ _ (measure_back rest asked)
-    (by_name (codes "why") command rest asked _ _ (why_back rest asked)
-    (without_more_back command rest asked)))) is
+    (by_name (codes "why") command rest asked _ _ (path_back (codes "why") explaining why rest asked)
+    (by_name (codes "vendor") command rest asked _ _ (path_back (codes "vendor") vendoring vendor rest asked)
+    (without_more_back command rest asked))))) is
 
 pub reading_is_exact : ReadingIsExact
 reading_is_exact words asked = (read_is_plain words asked, plain_is_read)

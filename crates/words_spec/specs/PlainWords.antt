@@ -40,8 +40,8 @@ with_value Base value options = record options { base = Some value }
 with_value Page value options = record options { page = Some value }
 with_value Conditions value options = record options { conditions = Some value }
 
--- own: a command with its values: options and entries of `link`, entries of `unlink`, the path of `why`, the number of
--- `measure`
+-- own: a command with its values: options and entries of `link`, entries of `unlink`, the path of `why` and of
+-- `vendor`, the number of `measure`
 pub data Asked : Type 0 where
   linking : LinkOptions → List (List ℕ) → Asked
   unlinking : List (List ℕ) → Asked
@@ -51,6 +51,7 @@ pub data Asked : Type 0 where
   injecting : Asked
   editing : Asked
   explaining : List ℕ → Asked
+  vendoring : List ℕ → Asked
   measuring : ℕ → Asked
 
 -- own: options first, each at most once, its value as a word of its own or behind `=`; then any number of entries
@@ -84,6 +85,7 @@ pub data Asks : List (List ℕ) → Asked → Type 0 where
   inject : Asks (codes "inject" ∷ []) injecting
   session : Asks (codes "session" ∷ []) editing
   why : (path : List ℕ) → IsValue path → Asks (codes "why" ∷ path ∷ []) (explaining path)
+  vendor : (path : List ℕ) → IsValue path → Asks (codes "vendor" ∷ path ∷ []) (vendoring path)
   measure :
       (number : ℕ) → 1 ≤ number → number ≤ most_packages
       → Asks (codes "measure" ∷ decimal number ∷ []) (measuring number)

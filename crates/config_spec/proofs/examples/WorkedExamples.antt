@@ -23,7 +23,7 @@ use Rattle.url_spec.specs.WorkedExamples.{BaseExamples}
 use Rattle.node_spec.specs.Conditions.{AreConditions, IsCondition}
 use Rattle.trace_spec.specs.Modules.{Config}
 use Rattle.words_spec.proofs.ReadIsPlain.{read_is_plain}
-use Rattle.words_spec.specs.PlainWords.{Asked, Asks, no_options, linking, refreshing, explaining}
+use Rattle.words_spec.specs.PlainWords.{Asked, Asks, no_options, linking, refreshing, explaining, vendoring}
 use Rattle.words_spec.specs.Reading.{reading_of}
 use Rattle.config_spec.proofs.Options.{no_settings_set}
 use Rattle.config_spec.proofs.TwoConditions.{two_conditions}
@@ -31,7 +31,7 @@ use Rattle.config_spec.specs.Projects.{config_by, HoldsProject, project_path, Re
 use Rattle.config_spec.specs.Projects.HoldsProject.{absent, folder, too_large}
 use Rattle.project_spec.specs.ProjectFiles.{IsPagePath}
 use Rattle.config_spec.specs.Words.{command_of, IsCommandOf, no_settings, options_of, Sets}
-use Rattle.config_spec.specs.Words.RefusesWords.{bad_file}
+use Rattle.config_spec.specs.Words.RefusesWords.{bad_file, bad_folder}
 use Rattle.config_spec.specs.Words.RefusesOptions.{bad_base, bad_conditions, bad_path}
 use Rattle.config_spec.specs.Words.SetsBase.{none as no_base, given as some_base}
 use Rattle.config_spec.specs.Words.SetsConditions.{none as no_names, given as some_names}
@@ -39,7 +39,7 @@ use Rattle.config_spec.specs.Words.SetsPage.{none as no_page}
 use Rattle.config_spec.specs.declared.ConfigFault.{ConfigFault}
 use Rattle.config_spec.specs.declared.ConfigFault.TheVariants.{NoBase, Project, TooManyEntries}
 use Rattle.config_spec.specs.declared.Command.{Command}
-use Rattle.config_spec.specs.declared.Command.TheVariants.{Link, Refresh, Why}
+use Rattle.config_spec.specs.declared.Command.TheVariants.{Link, Refresh, Why, Vendor}
 use Rattle.config_spec.specs.declared.ProjectFault.{ProjectFault}
 use Rattle.config_spec.specs.declared.ProjectFault.TheVariants.{Absent, TooLarge}
 use Rattle.config_spec.specs.WorkedExamples.{OptionExamples, LinkExamples, ProjectExamples, EntryExamples}
@@ -110,6 +110,7 @@ project_examples = record {
   list = refl;
   list_nothing = refl;
   why = refl;
+  vendor = refl;
   check_nothing = refl;
   inject_large = refl;
 }
@@ -180,16 +181,16 @@ refused_by words tree asked command found fault read is none holds comes = recor
       };
 }
 
--- a path that is asked for
-explains :
-    {words : List (List ℕ)} (path : List ℕ) → Asks words (explaining path)
-    → command_of (explaining path) ≡ Some Why → IsCommandOf words Why
-explains path asks is = record {
-  asked = explaining path;
+-- words that ask for a command without options
+asks_for :
+    {words : List (List ℕ)} {command : Command} (asked : Asked) → options_of asked ≡ no_options → Asks words asked
+    → command_of asked ≡ Some command → IsCommandOf words command
+asks_for asked none asks is = record {
+  asked = asked;
   asks = asks;
   is = is;
   settings = no_settings;
-  sets = no_settings_set;
+  sets = subst (λ options. Sets options no_settings) (sym none) no_settings_set;
 }
 
 not_path : (text : List ℕ) → is_path text ≡ false → IsPath text → ⊥
@@ -199,13 +200,22 @@ word_examples : WordExamples
 word_examples = record {
   session = read_is_plain (codes "session" ∷ []) _ refl;
   measured = read_is_plain (codes "measure" ∷ codes "200" ∷ []) _ refl;
-  why = explains (codes "/a.mjs") (read_is_plain (codes "why" ∷ codes "/a.mjs" ∷ []) _ refl) refl;
-  why_root = explains (codes "/") (read_is_plain (codes "why" ∷ codes "/" ∷ []) _ refl) refl;
+  why = asks_for (explaining (codes "/a.mjs")) refl (read_is_plain (codes "why" ∷ codes "/a.mjs" ∷ []) _ refl) refl;
+  why_root = asks_for (explaining (codes "/")) refl (read_is_plain (codes "why" ∷ codes "/" ∷ []) _ refl) refl;
   why_no_path =
       bad_file (codes "a.mjs") (read_is_plain (codes "why" ∷ codes "a.mjs" ∷ []) _ refl) (not_path (codes "a.mjs") refl);
   why_up =
       bad_file (codes "/a/../b.mjs") (read_is_plain (codes "why" ∷ codes "/a/../b.mjs" ∷ []) _ refl)
       (not_path (codes "/a/../b.mjs") refl);
+  vendor = asks_for (vendoring (codes "/out")) refl (read_is_plain (codes "vendor" ∷ codes "/out" ∷ []) _ refl) refl;
+  vendor_root =
+      bad_folder (codes "/") (read_is_plain (codes "vendor" ∷ codes "/" ∷ []) _ refl) (λ is. is.no_root refl);
+  vendor_no_path =
+      bad_folder (codes "out") (read_is_plain (codes "vendor" ∷ codes "out" ∷ []) _ refl)
+      (λ is. not_path (codes "out") refl is.is_path);
+  vendor_nothing =
+      refused_by (codes "vendor" ∷ codes "/out" ∷ []) bare_tree (vendoring (codes "/out")) Vendor (Ok None)
+      (Project Absent) refl refl refl no_project refl;
   why_nothing =
       refused_by (codes "why" ∷ codes "/a.mjs" ∷ []) bare_tree (explaining (codes "/a.mjs")) Why (Ok None)
       (Project Absent) refl refl refl no_project refl;

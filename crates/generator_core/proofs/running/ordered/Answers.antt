@@ -4,11 +4,14 @@ use Rattle.generator_spec.specs.Commands.{IsGenerating}
 use Rattle.generator_spec.specs.Asked.{AsksInOrder, IsConfigAt}
 use Rattle.generator_core.specs.Configuring.{FindsConfig}
 use Rattle.generator_core.proofs.Endings.{config_stop_end, ends_from, stop_spends}
-use Rattle.generator_core.proofs.Runs.{command_is, config_asks, config_still, for_all_words, not_why, project_asks}
+use Rattle.generator_core.proofs.Runs.{command_is, config_asks, config_still, for_all_words, not_vendor, not_why, project_asks}
 use Rattle.generator_core.proofs.running.ordered.Goals as goal
 
-pub commanded-requires : goal.commanded-requires
-commanded-requires g c = λ why. not_why c.args.order (sym c.command-command.ensures ∙ why)
+pub commanded-requires-clause-explains : goal.commanded-requires-clause-explains
+commanded-requires-clause-explains g c = λ why. not_why c.args.order (sym c.command-command.ensures ∙ why)
+
+pub commanded-requires-clause-vendors : goal.commanded-requires-clause-vendors
+commanded-requires-clause-vendors g c = λ vendor. not_vendor c.args.order (sym c.command-command.ensures ∙ vendor)
 
 pub returns-in-Ok-clause-end : goal.returns-in-Ok-clause-end
 returns-in-Ok-clause-end g c =

@@ -3,12 +3,13 @@ use Rattle.std.specs.Prelude.{map, string_bytes}
 use Rattle.tree_spec.proofs.ToldStates.{if_some}
 use Rattle.config_spec.proofs.WordsJudged.{words_are_judged}
 use Rattle.config_spec.specs.Words.{IsSession, Measures}
-use Rattle.config_spec.specs.declared.Command.TheVariants.{Why}
-use Rattle.command_words.specs.Orders.{AsksWhyAt, IsOrder, IsWanted, command_ordered}
-use Rattle.generator_spec.specs.Commands.{IsGenerating}
+use Rattle.config_spec.specs.declared.Command.TheVariants.{Why, Vendor}
+use Rattle.command_words.specs.Orders.{AsksWhyAt, IsOrder, IsWanted, VendorsAt, command_ordered}
+use Rattle.generator_spec.specs.Commands.{IsGenerating, SaysCounts}
 use Rattle.generator_spec.specs.Steps.{MeasureSpends}
 use Rattle.generator_core.proofs.Endings.{words_end}
 use Rattle.generator_core.proofs.Explainings.{why_command}
+use Rattle.generator_core.proofs.CopiesTold.{counts_generate, vendor_command}
 use Rattle.generator_core.proofs.HeldSessions.{unread_ends}
 use Rattle.generator_core.proofs.Measurings.{few_packages}
 use Rattle.generator_core.proofs.Runs.{command_is, words_not_done, asks_nothing_in_order}
@@ -24,7 +25,7 @@ returns-in-Ok-Order-clause-ends g c =
         end = c.ordered.ensures.end words is;
         asked = if_some (g.F.Folder.state c.args.folder.now).asked (λ old each. each words is) c.ordered.ensures.asked;
         steps = record {
-          told = λ command is_too generating zero. c.ordered.ensures.steps.told (subst IsGenerating ((words_are_judged words).one_command command (command_ordered c.in-Ok-Order.order) is_too commanded) generating) zero;
+          told = λ command is_too counts zero. c.ordered.ensures.steps.told (subst IsGenerating ((words_are_judged words).one_command command (command_ordered c.in-Ok-Order.order) is_too commanded) (counts_generate command counts)) zero;
           measured = λ number asks zero. absurd ((words_are_judged words).no_command number (command_ordered c.in-Ok-Order.order) asks commanded);
           bounded = c.ordered.ensures.steps.bounded;
           unspent = λ none no_measure. absurd (none _ commanded);
@@ -49,7 +50,7 @@ returns-in-Ok-Why-clause-ends g c =
         end = c.explain.ensures.end words is;
         asked = if_some (g.F.Folder.state c.args.folder.now).asked (λ old each. each words is) c.explain.ensures.asked;
         steps = record {
-          told = λ command is_too generating zero. absurd (subst IsGenerating ((words_are_judged words).one_command command Why is_too commanded) generating);
+          told = λ command is_too counts zero. absurd (subst SaysCounts ((words_are_judged words).one_command command Why is_too commanded) counts);
           measured = λ number asks zero. absurd ((words_are_judged words).no_command number Why asks commanded);
           bounded = c.explain.ensures.steps.bounded;
           unspent = λ none no_measure. absurd (none Why commanded);
@@ -63,6 +64,37 @@ returns-in-Ok-Why-clause-idle g c =
     let words = map string_bytes c.args.words.now in
     let is : AsksWhyAt words c.in-Ok-Why.path = subst (IsWanted words) c.in-Ok-Why.field-0-is c.in-Ok-Why.ensures in
     λ idle. absurd (idle.no_command Why (why_command words c.in-Ok-Why.path is))
+
+pub vendor-requires : goal.vendor-requires
+vendor-requires g c =
+    let words = map string_bytes c.args.words.now in
+    let is : VendorsAt words c.in-Ok-Vendor.path = subst (IsWanted words) c.in-Ok-Vendor.field-0-is c.in-Ok-Vendor.ensures in
+    is.is_path.no_root
+
+pub returns-in-Ok-Vendor-clause-ends : goal.returns-in-Ok-Vendor-clause-ends
+returns-in-Ok-Vendor-clause-ends g c =
+    let words = map string_bytes c.args.words.now in
+    let is : VendorsAt words c.in-Ok-Vendor.path = subst (IsWanted words) c.in-Ok-Vendor.field-0-is c.in-Ok-Vendor.ensures in
+    let commanded = vendor_command words c.in-Ok-Vendor.path is in
+    record {
+      command = λ none. record {
+        end = c.vendor.ensures.end words is;
+        asked = if_some (g.F.Folder.state c.args.folder.now).asked (λ old each. each words is) c.vendor.ensures.asked;
+        steps = record {
+          told = λ command is_too counts zero. absurd (subst SaysCounts ((words_are_judged words).one_command command Vendor is_too commanded) counts);
+          measured = λ number asks zero. absurd ((words_are_judged words).no_command number Vendor asks commanded);
+          bounded = c.vendor.ensures.steps.bounded;
+          unspent = λ none no_measure. absurd (none Vendor commanded);
+        };
+      };
+      session = λ asks. absurd ((words_are_judged words).session_or_command Vendor asks commanded);
+    }
+
+pub returns-in-Ok-Vendor-clause-idle : goal.returns-in-Ok-Vendor-clause-idle
+returns-in-Ok-Vendor-clause-idle g c =
+    let words = map string_bytes c.args.words.now in
+    let is : VendorsAt words c.in-Ok-Vendor.path = subst (IsWanted words) c.in-Ok-Vendor.field-0-is c.in-Ok-Vendor.ensures in
+    λ idle. absurd (idle.no_command Vendor (vendor_command words c.in-Ok-Vendor.path is))
 
 pub measure-requires : goal.measure-requires
 measure-requires g c =
