@@ -26,7 +26,7 @@ use Rattle.session_spec.specs.declared.EditFault.TheVariants.{BadEdit}
 use Rattle.session_spec.specs.EditFaults.{CanRefuseChange, CanRefuseEdit, bad_put, bad_drop}
 use Rattle.session_spec.proofs.FaultsOfEdits.{fault_of_change, first_refuses, rest_refuses}
 use Rattle.session_spec.specs.Edits.{Draft, can_put, changed, edited, is_file, linked, put_file, then_edited, unlinked}
-use Rattle.edit_session.specs.EditLooks.{climbed, change_looks, behind_change, edit_looks}
+use Rattle.session_spec.specs.EditLooks.{climbed, change_looks, behind_change, edit_looks}
 use Rattle.edit_session.specs.LooksOn.{LooksOn, IsSeenBy}
 use Rattle.edit_session.specs.Making.{MakesTree, Work, work, as_draft, IsDraftOf, IsListOfEntries, IsMadeOf, IsAllowed, LeavesDraft, CanStop, Makes}
 use Rattle.edit_session.specs.Making.IsAllowed.{is_made, is_bad, not_said, failed, no_memory}

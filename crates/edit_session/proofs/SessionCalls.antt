@@ -29,6 +29,7 @@ use Rattle.generation.specs.declared.generated.Generated.{Generated}
 use Rattle.generation.specs.declared.stop.Stop.{Stop}
 use Rattle.generation.specs.declared.stop.Stop.TheVariants as stop
 use Rattle.session_spec.specs.declared.Change.{Change}
+use Rattle.session_spec.specs.EditLooks.{IsEditLook}
 use Rattle.session_spec.specs.Edits.{edited}
 use Rattle.session_spec.specs.Replies.{IsRefused, by_change, by_generation, fault_line}
 use Rattle.session_spec.specs.SessionStates.{SessionState, draft_of, config_with}
@@ -36,7 +37,7 @@ use Rattle.generator_spec.specs.Lines.{line_of}
 use Rattle.edit_session.specs.LooksOn.{LooksOn}
 use Rattle.edit_session.specs.NewLooks.{AsksNew, AsksKept, LooksNew}
 use Rattle.edit_session.specs.SessionTrees.{counts_in, IsSessionOf}
-use Rattle.edit_session.specs.Sessions.{IsOpened, OpensSession, IfRefused, StopsEdit, IsEditLook, Accepts, Prepares, Commits}
+use Rattle.edit_session.specs.Sessions.{IsOpened, OpensSession, IfRefused, StopsEdit, Accepts, Prepares, Commits}
 use Rattle.edit_session.specs.Steps.{MakesNext, IsStep}
 use Rattle.edit_session.specs.declared.session.Pending.{Pending}
 use Rattle.edit_session.specs.declared.session.Session.{Session}

@@ -17,14 +17,14 @@ use Rattle.generation.specs.declared.generated.Generated.{Generated}
 use Rattle.generation.specs.declared.stop.Stop.{Stop}
 use Rattle.generation.specs.declared.stop.Stop.TheVariants as map
 use Rattle.session_spec.specs.declared.Change.{Change}
+use Rattle.session_spec.specs.EditLooks.{edit_looks, IsEditLook, of_change, of_generation}
 use Rattle.session_spec.specs.Edits.{Draft, edited}
 use Rattle.session_spec.specs.Replies.{accepted_line}
 use Rattle.session_spec.specs.SessionStates.{SessionState, draft_of, config_with, IsGenerated}
 use Rattle.edit_session.specs.LooksOn.{LooksOn}
-use Rattle.edit_session.specs.EditLooks.{edit_looks}
 use Rattle.edit_session.specs.Making.{Work, work, IsDraftOf, LeavesDraft}
 use Rattle.edit_session.specs.SessionTrees.{IsSessionOf, counts_in}
-use Rattle.edit_session.specs.Sessions.{StopsEdit, CanStopEdit, IsEditLook, of_change, of_generation}
+use Rattle.edit_session.specs.Sessions.{StopsEdit, CanStopEdit}
 use Rattle.edit_session.specs.Steps.{LeadsTo, CanLackMap, IsAsBefore, GeneratesNext, MakesNext}
 use Rattle.edit_session.specs.Stopping.{stop_by, stop_for}
 use Rattle.edit_session.specs.Trying.{TriesMap}

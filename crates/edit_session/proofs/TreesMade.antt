@@ -28,7 +28,7 @@ use Rattle.session_spec.specs.Laws.{NamesPath}
 use Rattle.session_spec.specs.declared.Change.TheVariants.{Put, Drop}
 use Rattle.session_spec.specs.declared.EditFault.TheVariants.{BadEdit}
 use Rattle.session_spec.proofs.TreesStay.{edits_keep_tree}
-use Rattle.edit_session.specs.EditLooks.{climbed}
+use Rattle.session_spec.specs.EditLooks.{climbed}
 use Rattle.edit_session.specs.LooksOn.{LooksOn, IsSeenBy}
 use Rattle.edit_session.specs.Making.{MakesTree, as_draft}
 use Rattle.edit_session.specs.Standings.{Stands, standing_at}

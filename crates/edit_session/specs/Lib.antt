@@ -1,4 +1,3 @@
-pub mod EditLooks
 pub mod SessionTrees
 pub mod NewLooks
 pub mod Sessions

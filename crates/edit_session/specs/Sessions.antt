@@ -4,18 +4,14 @@
 --     IfRefused P stop                of the line that is said of a refusal, this
 --     StopsEdit state edit stop       this is why the edit isn't prepared
 --     CanStopEdit config edit stop    it can be, whatever the folder tells
---     IsEditLook state edit path      the edit looks there, or the generation for what it leaves does
 --     Accepts tree state edit session the edit is accepted, and the state that it leads to is pending
 --     Prepares before old edit result after new       an edit that is prepared
 --     Commits old new                 what is pending becomes the state
 use Rattle.std.specs.Prelude.{◌≡◌, ⊤, ℕ, List, true, Some, None, Result, Err, IfOk, IfErr, IfSome, OnOk, OnErr}
-use Rattle.std.specs.Prelude.{Contains, is_some, Ok}
-use Rattle.std.specs.FinMap.{get}
-use Rattle.tree_spec.specs.LookAskings.{footprint}
+use Rattle.std.specs.Prelude.{is_some, Ok}
 use Rattle.tree_spec.specs.States.{FolderState, OnlyLooks}
 use Rattle.tree_spec.specs.Trees.{Tree}
 use Rattle.trace_spec.specs.Modules.{Config}
-use Rattle.trace_spec.specs.Traces.{generation}
 use Rattle.config_spec.specs.declared.Command.TheVariants.{Refresh}
 use Rattle.generator_spec.specs.Commands.{Refuses, IsRefusalOf}
 use Rattle.generator_spec.specs.Generation.{PageIsFile}
@@ -28,10 +24,10 @@ use Rattle.generation.specs.Generating as generating
 use Rattle.generation.specs.Generating.{AsksNoPathTwice, AsksFootprint}
 use Rattle.session_spec.specs.declared.Change.{Change}
 use Rattle.session_spec.specs.EditFaults.{CanRefuseEdit}
+use Rattle.session_spec.specs.EditLooks.{IsEditLook}
 use Rattle.session_spec.specs.Edits.{Draft, edited}
 use Rattle.session_spec.specs.Replies.{IsRefused, IsAccepted, fault_line}
 use Rattle.session_spec.specs.SessionStates.{SessionState, draft_of, config_with, IsCurrent}
-use Rattle.edit_session.specs.EditLooks.{edit_looks}
 use Rattle.edit_session.specs.NewLooks.{AsksKept, LooksNew}
 use Rattle.edit_session.specs.SessionTrees.{IsSessionOf, IsPendingOf}
 use Rattle.edit_session.specs.declared.session.Pending.{Pending}
@@ -91,13 +87,6 @@ CanStopEdit config edit (Generation why) =
     (entries : List (List ℕ)) × IsRefusalOf (config_with config entries) Refresh why
 CanStopEdit config edit ReadFault = ⊤
 CanStopEdit config edit Memory = ⊤
-
-pub data IsEditLook (state : SessionState) (edit : List Change) (path : List ℕ) : Type 0 where
-  of_change : Contains (edit_looks (draft_of state) edit) path → IsEditLook state edit path
-  of_generation :
-      (draft : Draft) → edited (draft_of state) edit ≡ Ok draft
-      → Contains (footprint (get draft.tree) (generation (config_with state.config draft.entries))) path
-      → IsEditLook state edit path
 
 pub record Accepts (tree : Tree) (state : SessionState) (edit : List Change) (session : Session) : Type 0 where
   pub next : SessionState

@@ -19,10 +19,11 @@ use Rattle.package_lookup.specs.declared.over.Over.{Over}
 use Rattle.package_lookup.specs.LaidTrees.{StandsBehind, IsLaid}
 use Rattle.package_lookup.specs.Looked.{over_at}
 use Rattle.session_spec.specs.declared.Change.{Change}
+use Rattle.session_spec.specs.EditLooks.{IsEditLook}
 use Rattle.session_spec.specs.Replies.{IsAccepted}
 use Rattle.session_spec.specs.SessionStates.{SessionState, config_with, IsGenerated}
 use Rattle.edit_session.specs.LooksOn.{LooksOn}
-use Rattle.edit_session.specs.Sessions.{IsEditLook, StopsEdit, CanStopEdit}
+use Rattle.edit_session.specs.Sessions.{StopsEdit, CanStopEdit}
 use Rattle.edit_session.specs.SessionTrees.{IsSessionOf, IsStateOf, counts_in}
 use Rattle.edit_session.specs.Trying.{IfLaid}
 use Rattle.edit_session.specs.declared.session.Pending.{Pending}

@@ -2,7 +2,7 @@ ghost use Rattle.std.specs.Prelude.{false, Ok, Err};
 ghost use Rattle.std.specs.FinMap.{get};
 ghost use Rattle.session_spec.specs.Edits.{changed, edited};
 ghost use Rattle.session_spec.specs.EditFaults.{CanRefuseChange, CanRefuseEdit};
-ghost use Rattle.edit_session.specs.EditLooks.{change_looks, edit_looks};
+ghost use Rattle.session_spec.specs.EditLooks.{change_looks, edit_looks};
 ghost use Rattle.edit_session.specs.Making.{work, IsAllowed, Makes};
 
 use crate::entries::Entries;

@@ -9,7 +9,7 @@ ghost use Rattle.package_lookup.specs.LaidTrees.{IsLaid};
 ghost use Rattle.package_lookup.specs.Looked.{Puts};
 ghost use Rattle.session_spec.specs.Edits as spec;
 ghost use Rattle.session_spec.specs.Edits.{above, with_folders, put_file};
-ghost use Rattle.edit_session.specs.EditLooks.{climbed};
+ghost use Rattle.session_spec.specs.EditLooks.{climbed};
 ghost use Rattle.edit_session.specs.Making.{MakesTree};
 
 use crate::standing::{Standing, standing_of};

@@ -1,6 +1,7 @@
 -- How a session ends that is held on the project of a folder.
 use Rattle.std.proofs.Common.{◌≡◌, ◌≤◌, ◌++◌, [], ◌∷◌, ℕ, List, Option, Some, None, IfSome, refl, sym, ap, ◌∙◌, subst, inl, inr, arith}
-use Rattle.std.proofs.lemmas.List.{append-nil, append_assoc}
+use Rattle.std.proofs.lemmas.List.{append-nil}
+use Rattle.std.proofs.lemmas.List.Elements.{All-nil}
 use Rattle.tree_spec.specs.Counts.{Rose}
 use Rattle.tree_spec.specs.States.{FolderState, SourceState, SinkState, OnlyLooks}
 use Rattle.tree_spec.specs.Trees.{Tree}
@@ -17,7 +18,6 @@ use Rattle.command_words.specs.declared.fault.WordsFault.TheVariants as words_fa
 use Rattle.command_words.specs.declared.order.Order.TheVariants as order
 use Rattle.command_words.specs.Faults.{Explains}
 use Rattle.command_words.specs.Orders.{IsOrder}
-use Rattle.generation.specs.Generating.{AsksNoPathTwice}
 use Rattle.generation.specs.declared.stop.Stop.{Stop}
 use Rattle.generator_spec.specs.Asked.{AsksOwn}
 use Rattle.generator_spec.specs.declared.Refusal.{Refusal}
@@ -27,10 +27,14 @@ use Rattle.generator_spec.specs.Lines.{status_of, line_of, memory_line, read_fau
 use Rattle.generator_spec.specs.Outcome.{RefusesRun, RefusesRun as refuses_run}
 use Rattle.generator_spec.specs.Statuses.{memory_status, read_fault_status}
 use Rattle.session_input.proofs.ReaderLemmas.{takes_none}
+use Rattle.session_run.specs.Sessions.{HoldsSession}
 use Rattle.soundness.proofs.SessionMaps.{session_maps_serve}
 use Rattle.session_spec.specs.SessionRuns as runs
 use Rattle.session_spec.specs.SessionRuns.{IsSessionShaped as shaped, RepliesTo as replies_to}
-use Rattle.session_spec.specs.SessionRuns.{refresh_words, AsksOnce, IsAwaited, MapsServe, NoFault, RepliesTo, RepliesToAll, SessionComesTo, SessionSays, SessionStops, SessionEnds}
+use Rattle.session_spec.specs.Openings.{refresh_words}
+use Rattle.session_spec.specs.SessionLooks.{IsSessionLook, AsksFresh, AsksWithin}
+use Rattle.session_spec.specs.SessionRuns.{IsAwaited, StatesServe, NoFault, RepliesTo, RepliesToAll, SessionComesTo, SessionSays, SessionStops, SessionEnds}
+use Rattle.session_spec.proofs.SessionSpending.{spends_nothing}
 use Rattle.generator_core.specs.Configuring.{StopsConfig, StopsConfig as stops_config}
 use Rattle.generator_core.specs.Writing.{TellsStop, TellsWords}
 use Rattle.generator_core.proofs.Endings.{some_same, still}
@@ -77,17 +81,18 @@ module _ (before middle after : FolderState) (same_tree : middle.holds ≡ befor
   stops_before out gone result (runs.cut_off text none told is_status gives rose) = runs.cut_off text (no_fault none) (of_before (Replied text) told) is_status gives rose
 
 asks_both :
-    (middle after : FolderState) (told : Option (List (List ℕ))) → IfSome told (λ old. AsksOwn (project_path ∷ []) old middle) → IfSome middle.asked (λ old. AsksNoPathTwice old after)
-    → IfSome told (λ old. AsksOnce old after)
-asks_both middle after None own more = tt
-asks_both middle after (Some old) own more =
-    let new : AsksNoPathTwice (old ++ own.first) after = subst (λ (asked : Option (List (List ℕ))). IfSome asked (λ old. AsksNoPathTwice old after)) own.asked more in
-    record { first = own.first; is_first = own.is_own; more = new.more; asked = new.asked ∙ ap Some (append_assoc old own.first new.more); once = new.once }
+    (taken : List ℕ) (holds before_holds : Option Tree) → holds ≡ before_holds → (middle after : FolderState) (told : Option (List (List ℕ))) → IfSome told (λ old. AsksOwn (project_path ∷ []) old middle)
+    → IfSome middle.asked (λ old. AsksFresh holds taken old after) → IfSome told (λ old. AsksWithin before_holds taken old after)
+asks_both taken holds before_holds same middle after None own more = tt
+asks_both taken holds before_holds same middle after (Some old) own more =
+    let new : AsksFresh holds taken (old ++ own.first) after = subst (λ (asked : Option (List (List ℕ))). IfSome asked (λ old. AsksFresh holds taken old after)) own.asked more in
+    record { first = own.first; is_first = own.is_own; then = subst (λ (h : Option Tree). AsksFresh h taken (old ++ own.first) after) same new }
 
 pub ends_before :
-    (before middle after : FolderState) (source later : SourceState) (out gone : SinkState) (result : ℕ) → OnlyLooks before middle ⊥ → IfSome before.asked (λ old. AsksOwn (project_path ∷ []) old middle)
-    → IfSome middle.asked (λ old. AsksNoPathTwice old after) → SessionEnds middle after source later out gone result → SessionEnds before after source later out gone result
-ends_before before middle after source later out gone result looked own more is =
+    (before middle after : FolderState) (source later : SourceState) (out gone : SinkState) (result spent spent_after : ℕ) → OnlyLooks before middle ⊥ → IfSome before.asked (λ old. AsksOwn (project_path ∷ []) old middle)
+    → HoldsSession middle after source later out gone result spent spent_after → SessionEnds before after source later out gone result spent spent_after
+ends_before before middle after source later out gone result spent spent_after looked own held =
+    let is = held.ends in
     let quiet = looked.quiet (λ e. e) in
     let looks_later = is.looks_later in
     record {
@@ -97,22 +102,27 @@ ends_before before middle after source later out gone result looked own more is 
       output_later = is.output_later;
       taken = is.taken;
       takes = is.takes;
+      few = is.few;
       awaited = of_before before middle after looked.tree quiet source later is.taken (λ tree. IsAwaited tree is.taken) is.awaited;
-      asked = asks_both middle after before.asked own more;
+      steps = is.steps;
+      asked = asks_both is.taken middle.holds before.holds looked.tree middle after before.asked own held.fresh;
       stops = stops_before before middle after looked.tree quiet source later is.taken out gone result is.stops;
-      serves = of_before before middle after looked.tree quiet source later is.taken (λ tree. MapsServe tree is.taken) is.serves;
+      serves = of_before before middle after looked.tree quiet source later is.taken (λ tree. StatesServe tree is.taken) is.serves;
     }
 
 -- ---- a session that isn't opened
 
-module _ (before after : FolderState) (source : SourceState) (out gone : SinkState) (result : ℕ) where
+nothing_fresh : (holds : Option Tree) (after : FolderState) (old : List (List ℕ)) → after.asked ≡ Some old → AsksFresh holds [] old after
+nothing_fresh holds after old is = record { more = []; asked = is ∙ ap Some (sym (append-nil old)); once = distinct_none; among = if_all holds (λ tree. All-nil (IsSessionLook tree [])) }
+
+module _ (before after : FolderState) (source : SourceState) (out gone : SinkState) (result spent : ℕ) where
   abbrev StopsAtOnce : Type 0
   StopsAtOnce = SessionStops before after source source [] out gone result
 
   nothing_said : IfSome before.holds (λ tree. RepliesTo tree [] [])
   nothing_said = if_all before.holds (λ tree. replies_to.unopened)
 
-  unopened_ends : {P : Type 0} → OnlyLooks before after P → out.faults ≤ gone.faults → IfSome before.asked (λ old. AsksOwn (project_path ∷ []) old after) → StopsAtOnce → SessionEnds before after source source out gone result
+  unopened_ends : {P : Type 0} → OnlyLooks before after P → out.faults ≤ gone.faults → IfSome before.asked (λ old. AsksOwn (project_path ∷ []) old after) → StopsAtOnce → SessionEnds before after source source out gone result spent spent
   unopened_ends looks output_later own stops = record {
     tree = looks.tree;
     writes = looks.writes;
@@ -120,8 +130,10 @@ module _ (before after : FolderState) (source : SourceState) (out gone : SinkSta
     output_later = output_later;
     taken = [];
     takes = takes_none source;
+    few = omega arith;
     awaited = if_all before.holds (λ tree. inl refl);
-    asked = if_some before.asked (λ old is. record { first = is.first; is_first = is.is_own; more = []; asked = is.asked ∙ ap (λ (new : List (List ℕ)). Some (old ++ new)) (sym (append-nil is.first)); once = distinct_none }) own;
+    asked = if_some before.asked (λ old is. record { first = is.first; is_first = is.is_own; then = nothing_fresh before.holds after (old ++ is.first) is.asked }) own;
+    steps = spends_nothing _ _ _ (omega arith);
     stops = stops;
     serves = if_all before.holds (λ tree. session_maps_serve tree []);
   }
@@ -139,7 +151,7 @@ module _ (before after : FolderState) (source : SourceState) (out gone : SinkSta
   abbrev IsOwn : Type 0
   IsOwn = IfSome before.asked (λ old. AsksOwn (project_path ∷ []) old after)
 
-  pub stopped_ends : (stop : Stop) → StopsConfig refresh_words before after stop → IsOwn → TellsStop stop out gone result → out.faults ≤ gone.faults → SessionEnds before after source source out gone result
+  pub stopped_ends : (stop : Stop) → StopsConfig refresh_words before after stop → IsOwn → TellsStop stop out gone result → out.faults ≤ gone.faults → SessionEnds before after source source out gone result spent spent
   stopped_ends stop (stops_config.refused fault same refuses can looks) own told later =
       unopened_ends looks later own
       (refused_at_once (Configured fault) (can_refuse.by_project fault can) (looks.quiet (λ e. e)) (if_some before.holds (λ tree because. refuses_run.by_project fault because) refuses) (subst (λ (s : Stop). TellsStop s out gone result) same told))
@@ -156,10 +168,10 @@ own_of_nothing state = some_same state.asked _ (λ old is. record { first = []; 
 
 -- words that ask for a session are refused for want of memory alone
 pub unread_ends :
-    (words : List (List ℕ)) (state : FolderState) (source : SourceState) (out gone : SinkState) (result : ℕ) (fault : WordsFault) → Explains words fault → TellsWords fault out gone result → out.faults ≤ gone.faults → IsSession words
-    → SessionEnds state state source source out gone result
-unread_ends words state source out gone result (words_fault.Told text) why told later asks = absurd (why (record { asked = editing; asks = asks }))
-unread_ends words state source out gone result words_fault.NotPlain why told later asks = absurd (why (record { asked = editing; asks = asks }))
-unread_ends words state source out gone result (words_fault.Refused fault) why told later asks = absurd ((words_are_judged words).session_or_fault fault asks why)
-unread_ends words state source out gone result words_fault.Memory why told later asks =
-    unopened_ends state state source out gone result (still state) later (own_of_nothing state) (memory_at_once state state source out gone result refl told)
+    (words : List (List ℕ)) (state : FolderState) (source : SourceState) (out gone : SinkState) (result spent : ℕ) (fault : WordsFault) → Explains words fault → TellsWords fault out gone result → out.faults ≤ gone.faults → IsSession words
+    → SessionEnds state state source source out gone result spent spent
+unread_ends words state source out gone result spent (words_fault.Told text) why told later asks = absurd (why (record { asked = editing; asks = asks }))
+unread_ends words state source out gone result spent words_fault.NotPlain why told later asks = absurd (why (record { asked = editing; asks = asks }))
+unread_ends words state source out gone result spent (words_fault.Refused fault) why told later asks = absurd ((words_are_judged words).session_or_fault fault asks why)
+unread_ends words state source out gone result spent words_fault.Memory why told later asks =
+    unopened_ends state state source out gone result spent (still state) later (own_of_nothing state) (memory_at_once state state source out gone result spent refl told)

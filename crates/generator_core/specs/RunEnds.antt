@@ -28,4 +28,4 @@ pub record CommandEnds (words : List (List ℕ)) (before after : FolderState) (o
 pub record RunEnds (words : List (List ℕ)) (before after : FolderState) (source later : SourceState)
     (out out_after : SinkState) (result spent spent_after : ℕ) : Type 0 where
   pub command : (IsSession words → ⊥) → CommandEnds words before after out out_after result spent spent_after
-  pub session : IsSession words → SessionEnds before after source later out out_after result
+  pub session : IsSession words → SessionEnds before after source later out out_after result spent spent_after

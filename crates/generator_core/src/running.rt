@@ -89,7 +89,7 @@ fn hold<F: Folder, I: Source, O: Sink, L: Ledger>(
     steps: &mut Steps<L>,
 ) -> u8
     ensures { SessionEnds (F.state folder.old) (F.state folder.new) (I.state input.old) (I.state input.new)
-        (O.state out.old) (O.state out.new) result }
+        (O.state out.old) (O.state out.new) result steps.old steps.new }
 {
     match configured(alloc, folder, Order::Refresh) {
         Ok(config) => session(alloc, config, folder, input, out, steps),

@@ -1,7 +1,7 @@
 -- What an edit of a session comes to, as it is told.
-use Rattle.std.proofs.Common.{◌≡◌, ℕ, List, true, false, Option, Some, None, Result, Ok, Err, refl, sym, ap, ◌∙◌, subst}
+use Rattle.std.proofs.Common.{◌≡◌, ◌≤◌, ℕ, List, true, false, Option, Some, None, Result, Ok, Err, refl, sym, ap, ◌∙◌, subst}
 use Rattle.std.proofs.lemmas.List.Elements.{All-weaker}
-use Rattle.std.specs.Prelude.{IfSome, is_some}
+use Rattle.std.specs.Prelude.{◌+◌, IfSome, is_some}
 use Rattle.tree_spec.specs.Counts.{Rose}
 use Rattle.tree_spec.specs.States.{FolderState}
 use Rattle.tree_spec.specs.Trees.{Tree}
@@ -11,19 +11,21 @@ use Rattle.generator_spec.specs.Lines.{line_of}
 use Rattle.package_lookup.specs.Looked.{kept_at}
 use Rattle.trace_spec.specs.Modules.{Config}
 use Rattle.session_spec.specs.declared.Change.{Change}
+use Rattle.session_spec.specs.EditLooks.{IsEditLook}
 use Rattle.session_spec.specs.Edits.{Draft, edited}
 use Rattle.session_spec.specs.declared.EditFault.{EditFault}
 use Rattle.session_spec.specs.Replies as replies
 use Rattle.session_spec.specs.Replies.{IsRefused, IsAccepted, Follows, Replies, fault_line, accepted_line}
 use Rattle.session_spec.specs.SessionStates.{SessionState, IsGenerated, draft_of, next_state}
+use Rattle.session_spec.specs.SessionSteps.{most_steps}
 use Rattle.edit_session.specs.NewLooks.{AsksNew as LooksAsked, LooksNew}
 use Rattle.edit_session.specs.Sessions.{Accepts, Prepares, Commits}
 use Rattle.edit_session.specs.SessionTrees.{IsSessionOf, shown_map, shown_counts}
 use Rattle.edit_session.specs.declared.session.Session.{Session}
 use Rattle.edit_session.specs.declared.stop.EditStop.{EditStop}
 use Rattle.edit_session.specs.declared.stop.EditStop.TheVariants as stop
-use Rattle.session_talk.specs.EditorLooks.{LookState, AsksNew, AsksAndKeeps, AsksSome, AsksKeeping, EditAsks}
-use Rattle.session_talk.specs.Editors.{EditorState, Seen, IsReplied, EditsTold, Edits, Shows}
+use Rattle.session_talk.specs.EditorLooks.{LookState, AsksUnkept, AsksAndKeeps, AsksSome, AsksKeeping, EditAsks}
+use Rattle.session_talk.specs.Editors.{EditorState, AsksFor, Seen, IsReplied, EditsTold, Comes, Edits, Shows}
 use Rattle.session_talk.specs.declared.editor.EditorFault.{EditorFault}
 use Rattle.session_talk.specs.declared.editor.EditorFault.TheVariants.{ReadFault, Memory}
 use Rattle.session_talk.proofs.AskLemmas.{some_of_keeping}
@@ -47,9 +49,12 @@ replies_accepted state next edit line is =
     (subst (λ (made : Result Draft EditFault). Follows state made (next_state state (draft_of next) next.map next.counts) (accepted_line next.counts)) (sym is.made)
     (replies.accepted (draft_of next) next.map next.counts current)))
 
-module _ (before after : FolderState) (old new : Session) (edit : List Change) (view : EditorState) (is : IsViewOf before old view) where
+module _ (before after : FolderState) (old new : Session) (edit : List Change) (view : EditorState) (spent spent_after : ℕ) (few : spent_after ≤ spent + most_steps) (is : IsViewOf before old spent view) where
   abbrev left_view : EditorState
-  left_view = record { told = view.told; faults = after.look_faults }
+  left_view = record { told = view.told; faults = after.look_faults; asked = after.asked; spent = spent_after }
+
+  few_more : spent_after ≤ view.spent + most_steps
+  few_more = subst (λ (n : ℕ). spent_after ≤ n + most_steps) (sym is.spent) few
 
   abbrev Stays : Tree → Type 0
   Stays tree = (state : SessionState) → IsSessionOf tree old state → IsSessionOf tree new state
@@ -61,6 +66,21 @@ module _ (before after : FolderState) (old new : Session) (edit : List Change) (
     holds = prepares.looks.looks.tree ∙ stands.holds;
     is_state = at_tree Stays before.holds stands.tree stands.holds prepares.stays state stands.is_state;
   }
+
+  abbrev LooksThere : List ℕ → Tree → Type 0
+  LooksThere path tree = (state : SessionState) → IsSessionOf tree old state → IsEditLook state edit path
+
+  looks_told : (result : Result (Unit {0}) EditStop) → Prepares before old edit result after new → (told : Option SessionState) → IsToldBy before old told
+      → IfSome told (λ state. IfSome view.asked (λ list. AsksFor (IsEditLook state edit) list after.asked))
+  looks_told result prepares None none = tt
+  looks_told result prepares (Some state) stands =
+      subst (λ (t : Option (List (List ℕ))). IfSome t (λ list. AsksFor (IsEditLook state edit) list after.asked)) (sym is.asked)
+      (if_some before.asked (λ list asks. record {
+        more = asks.more;
+        is = asks.asked;
+        among = All-weaker (λ path. IfSome before.holds (LooksThere path)) (IsEditLook state edit)
+            (λ path seen. at_tree (LooksThere path) before.holds stands.tree stands.holds seen state stands.is_state) asks.more asks.among;
+      }) prepares.looks.asked)
 
   -- ---- what is refused
 
@@ -79,30 +99,30 @@ module _ (before after : FolderState) (old new : Session) (edit : List Change) (
       is_told = refl;
     }
 
-    says_why : (line : List ℕ) (result : Result (List ℕ) EditorFault) → IsWhy line → after.look_faults ≡ before.look_faults → SaysLine line result → Edits view edit result left_view
+    says_why : (line : List ℕ) (result : Result (List ℕ) EditorFault) → IsWhy line → after.look_faults ≡ before.look_faults → SaysLine line result → Comes view edit result left_view
     says_why line (Ok text) why quiet says =
         subst (λ (l : List ℕ). EditsTold view edit l left_view) (sym says)
         (record { replied = refused_replied line why view.told is.told; untold = λ e. e; quiet = quiet ∙ sym is.faults })
     says_why line (Err ReadFault) why quiet says = absurd says
     says_why line (Err Memory) why quiet says = quiet ∙ sym is.faults
 
-  stopped_edits : (fault : EditStop) (result : Result (List ℕ) EditorFault) → Prepares before old edit (Err fault) after new → SaysStop fault result → Edits view edit result left_view
+  stopped_edits : (fault : EditStop) (result : Result (List ℕ) EditorFault) → Prepares before old edit (Err fault) after new → SaysStop fault result → Comes view edit result left_view
   stopped_edits (stop.Change fault) result prepares says =
       says_why (stop.Change fault) prepares (fault_line fault) result prepares.refused (prepares.looks.looks.quiet (λ e. cc)) says
   stopped_edits (stop.Generation why) result prepares says =
       says_why (stop.Generation why) prepares (line_of why) result prepares.refused (prepares.looks.looks.quiet (λ e. cc)) says
   stopped_edits stop.ReadFault result prepares says =
-      subst (λ (r : Result (List ℕ) EditorFault). Edits view edit r left_view) (sym says)
+      subst (λ (r : Result (List ℕ) EditorFault). Comes view edit r left_view) (sym says)
       (subst (λ (n : ℕ). Rose n after.look_faults) (sym is.faults) (prepares.looks.looks.cause refl))
   stopped_edits stop.Memory result prepares says =
-      subst (λ (r : Result (List ℕ) EditorFault). Edits view edit r left_view) (sym says) (prepares.looks.looks.quiet (λ e. cc) ∙ sym is.faults)
+      subst (λ (r : Result (List ℕ) EditorFault). Comes view edit r left_view) (sym says) (prepares.looks.looks.quiet (λ e. cc) ∙ sym is.faults)
 
   pub stopped_seen : (fault : EditStop) (result : Result (List ℕ) EditorFault) → Prepares before old edit (Err fault) after new → SaysStop fault result
-      → Seen (IsViewOf after new) (λ last. Edits view edit result last)
+      → Seen (IsViewOf after new spent_after) (λ last. Edits view edit result last)
   stopped_seen fault result prepares says = record {
     at = left_view;
-    is = record { told = told_still (Err fault) prepares view.told is.told; faults = refl };
-    holds = stopped_edits fault result prepares says;
+    is = record { told = told_still (Err fault) prepares view.told is.told; faults = refl; asked = refl; spent = refl };
+    holds = record { comes = stopped_edits fault result prepares says; looks = looks_told (Err fault) prepares view.told is.told; steps = few_more };
   }
 
   -- ---- what is accepted
@@ -136,16 +156,20 @@ module _ (before after : FolderState) (old new : Session) (edit : List Change) (
           untold = λ e. absurd (cc);
         }
 
-    pub accepted_seen : (result : Result (List ℕ) EditorFault) → SaysLine (accepted_line (shown_counts closed)) result → Seen (IsViewOf after closed) (λ last. Edits view edit result last)
+    pub accepted_seen : (result : Result (List ℕ) EditorFault) → SaysLine (accepted_line (shown_counts closed)) result → Seen (IsViewOf after closed spent_after) (λ last. Edits view edit result last)
     accepted_seen result says =
         let next = next_told view.told is.told in
         let quiet : after.look_faults ≡ view.faults = prepares.looks.looks.quiet (λ e. cc) ∙ sym is.faults in
-        record { at = record { told = next.later; faults = after.look_faults }; is = record { told = next.is_told; faults = refl }; holds = edits result says next quiet }
+        record {
+          at = record { told = next.later; faults = after.look_faults; asked = after.asked; spent = spent_after };
+          is = record { told = next.is_told; faults = refl; asked = refl; spent = refl };
+          holds = record { comes = edits result says next quiet; looks = looks_told (Ok tt) prepares view.told is.told; steps = few_more };
+        }
       where
         edits : (result : Result (List ℕ) EditorFault) → SaysLine (accepted_line (shown_counts closed)) result → (next : NextTold view.told) → after.look_faults ≡ view.faults
-            → Edits view edit result (record { told = next.later; faults = after.look_faults })
+            → Comes view edit result (record { told = next.later; faults = after.look_faults; asked = after.asked; spent = spent_after })
         edits (Ok text) says next quiet =
-            subst (λ (l : List ℕ). EditsTold view edit l (record { told = next.later; faults = after.look_faults })) (sym says)
+            subst (λ (l : List ℕ). EditsTold view edit l (record { told = next.later; faults = after.look_faults; asked = after.asked; spent = spent_after })) (sym says)
             (record { replied = next.replied; untold = next.untold; quiet = quiet })
         edits (Err ReadFault) says next quiet = absurd says
         edits (Err Memory) says next quiet = quiet
@@ -164,7 +188,7 @@ module _ (references : List ℕ) (before after : FolderState) (old new : Session
   then_looks = look_state references after new
 
   module _ (failed unfinished : Type 0) (Among : List ℕ → Type 0) (looks : LooksNew before old.known after new.known failed unfinished Among) where
-    abbrev asks_by : (list : List (List ℕ)) → LooksAsked list old.known after new.known unfinished Among → AsksNew list first_looks then_looks
+    abbrev asks_by : (list : List (List ℕ)) → LooksAsked list old.known after new.known unfinished Among → AsksUnkept list first_looks then_looks
     asks_by list asks = record {
       more = asks.more;
       asked = asks.asked;
@@ -224,5 +248,5 @@ shows_told : (folder : FolderState) (session : Session) (map : List ℕ) → map
 shows_told folder session map same None none = tt
 shows_told folder session map same (Some state) stands = same ∙ sym stands.is_state.is_state.map_is
 
-pub shows_view : (folder : FolderState) (session : Session) (map : List ℕ) (view : EditorState) → map ≡ shown_map session → IsViewOf folder session view → Shows view map
-shows_view folder session map view same is = shows_told folder session map same view.told is.told
+pub shows_view : (folder : FolderState) (session : Session) (steps : ℕ) (map : List ℕ) (view : EditorState) → map ≡ shown_map session → IsViewOf folder session steps view → Shows view map
+shows_view folder session steps map view same is = shows_told folder session map same view.told is.told

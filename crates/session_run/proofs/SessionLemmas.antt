@@ -1,19 +1,22 @@
 -- How a session ends, by how it is opened and what is replied.
 use Rattle.std.proofs.Common.{◌≡◌, ◌≤◌, ◌++◌, [], ℕ, List, length, true, false, Option, Some, None, Ok, Err, refl, sym, ap, ◌∙◌, subst, inl, inr, arith}
 use Rattle.std.proofs.lemmas.Bool.{false≢true}
-use Rattle.std.proofs.lemmas.List.{append-nil, append_assoc, take_all}
-use Rattle.std.proofs.lemmas.List.Elements.{All-weaker}
-use Rattle.std.specs.Prelude.{IfSome, is_some, option_map, take}
+use Rattle.std.proofs.lemmas.List.{append-nil, append_assoc, append_cancel_left, take_all}
+use Rattle.std.proofs.lemmas.List.Elements.{All-append, All-weaker}
+use Rattle.std.specs.FinMap.{get}
+use Rattle.std.specs.Prelude.{◌+◌, ◌*◌, All, Contains, IfSome, is_some, option_map, take}
 use Rattle.tree_spec.specs.Counts.{Rose}
 use Rattle.tree_spec.specs.Limits.{limit_number}
+use Rattle.tree_spec.specs.LookAskings.{footprint}
 use Rattle.tree_spec.specs.States.{FolderState, SourceState, SinkState}
 use Rattle.tree_spec.specs.Trees.{Tree}
 use Rattle.tree_spec.specs.declared.LimitName.TheVariants.{Session as Limited}
 use Rattle.tree_spec.proofs.ToldStates.{if_some, if_two, if_all}
 use Rattle.trace_spec.specs.Modules.{Config}
+use Rattle.trace_spec.specs.Traces.{generation}
 use Rattle.config_spec.specs.Projects.{IsConfigOf}
 use Rattle.config_spec.specs.declared.Command.TheVariants.{Refresh}
-use Rattle.generation.specs.Generating.{AsksNoPathTwice}
+use Rattle.generation.specs.Generating.{AsksNoPathTwice, AsksFootprint}
 use Rattle.generation.specs.declared.stop.Stop.{Stop}
 use Rattle.generation.specs.declared.stop.Stop.TheVariants as stop
 use Rattle.generator_spec.specs.Asked.{IsConfigAt}
@@ -27,21 +30,26 @@ use Rattle.session_input.proofs.ReaderLemmas.{takes_none}
 use Rattle.session_spec.specs.Conversations.{Answers, end_reply, bad_line}
 use Rattle.session_spec.specs.Replies.{accepted_line}
 use Rattle.session_spec.specs.SessionRuns as runs
-use Rattle.session_spec.specs.SessionRuns.{refresh_words, OpensAt, opens, opening_line, SessionComesTo, RepliesTo, unopened, RepliesToAll, IsAwaited, AsksOnce, NoFault, IsOpenedText, IsSessionShaped, SessionSays, SessionStops, SessionEnds}
+use Rattle.session_spec.specs.Openings.{refresh_words, OpensAt, opens, opening_line}
+use Rattle.session_spec.specs.SessionLooks.{IsTriedLook, IsSessionLook, of_opening, of_edit, AsksFresh, AsksWithin}
+use Rattle.session_spec.specs.SessionRuns.{SessionComesTo, RepliesTo, unopened, RepliesToAll, IsAwaited, NoFault, IsOpenedText, IsSessionShaped, SessionSays, SessionStops, SessionEnds}
 use Rattle.session_spec.specs.SessionStates.{SessionState, IsGenerated}
+use Rattle.session_spec.specs.SessionSteps.{most_steps, SpendsFor, SessionSpends}
+use Rattle.session_spec.proofs.SessionSpending.{spends_nothing}
 use Rattle.session_spec.specs.Talks.{Standing, begun, Talks, still}
 use Rattle.edit_session.specs.NewLooks.{AsksKept}
 use Rattle.edit_session.specs.Sessions.{IsOpened, OpensSession}
 use Rattle.edit_session.specs.SessionTrees.{shown_counts}
 use Rattle.edit_session.specs.declared.session.Session.{Session}
 use Rattle.session_talk.specs.EditorLooks.{LookState, AsksAndKeeps, AsksSome, AsksKeeping}
-use Rattle.session_talk.specs.Editors.{EditorState}
+use Rattle.session_talk.specs.Editors.{EditorState, AsksFor}
 use Rattle.session_talk.specs.Talking as talking
 use Rattle.session_talk.specs.Talking.{Now, now_at, IsAwaitedBy, RepliesFront, RepliesAll, IsShaped, IsLastLine, IsQuiet, Says, Stops}
 use Rattle.session_talk.proofs.AskLemmas.{some_then}
+use Rattle.session_talk.proofs.LookLemmas.{for_weaker}
 use Rattle.session_talk.proofs.TalkLemmas.{gives_then, ends_then}
 use Rattle.session_run.specs.Editing.{IsToldBy, IsViewOf, look_state}
-use Rattle.session_run.specs.Sessions.{fresh, RefusedEnds, opened_line, OpenedEnds, wants, cut_off, replies}
+use Rattle.session_run.specs.Sessions.{fresh as fresh_reader, RefusedEnds, opened_line, OpenedEnds, wants, cut_off, replies, HoldsSession}
 use Rattle.session_run.proofs.TalkLemmas.{begun_alone}
 
 -- ---- what is asked
@@ -85,11 +93,46 @@ module _ (config : Config) (before mid : FolderState) (session : Session) (openi
       let all = some_then (no_looks before) (look_state [] mid session) (look_state [] after closed) opening_keeps asks in
       if_some before.asked (λ old new. record { more = new.more; asked = new.asked; once = new.once }) all.asked
 
-  pub asked_in : (after : FolderState) (source later : SourceState) (out gone : SinkState) (result : ℕ) → OpenedEnds session mid after source later out gone result
+  pub asked_in : (after : FolderState) (source later : SourceState) (out gone : SinkState) (result spent spent_after : ℕ) → OpenedEnds session mid after source later out gone result spent spent_after
       → IfSome before.asked (λ old. AsksNoPathTwice old after)
-  asked_in after source later out gone result (wants same taken is) = subst (λ (state : FolderState). IfSome before.asked (λ old. AsksNoPathTwice old state)) (sym same) opening.asked
-  asked_in after source later out gone result (cut_off same taken is gives rose) = subst (λ (state : FolderState). IfSome before.asked (λ old. AsksNoPathTwice old state)) (sym same) opening.asked
-  asked_in after source later out gone result (replies middle closed got quiet talks asks) = asked_with after closed asks
+  asked_in after source later out gone result spent spent_after (wants same taken rested is) = subst (λ (state : FolderState). IfSome before.asked (λ old. AsksNoPathTwice old state)) (sym same) opening.asked
+  asked_in after source later out gone result spent spent_after (cut_off same taken rested is gives rose) = subst (λ (state : FolderState). IfSome before.asked (λ old. AsksNoPathTwice old state)) (sym same) opening.asked
+  asked_in after source later out gone result spent spent_after (replies middle closed got quiet talks asks) = asked_with after closed asks
+
+module _ (config : Config) (before mid : FolderState) (asked : IfSome before.asked (λ old. AsksNoPathTwice old mid)) (footprint_of : IfSome before.asked (λ old. AsksFootprint config before.holds old mid))
+    (is_config : IfSome before.holds (λ tree. IsConfigOf refresh_words tree Refresh config)) (taken : List ℕ) where
+  opening_among : (more : List (List ℕ)) → IfSome before.holds (λ tree. All (Contains (footprint (get tree) (generation config))) more) → IfSome before.holds (λ tree. All (IsSessionLook tree taken) more)
+  opening_among more all =
+      if_two before.holds (λ tree is looks. All-weaker (Contains (footprint (get tree) (generation config))) (IsSessionLook tree taken) (λ path look. of_opening config is look) more looks) is_config all
+
+  fresh_opening : IfSome before.asked (λ old. AsksFresh before.holds taken old mid)
+  fresh_opening =
+      if_two before.asked (λ old new looks. record { more = new.more; asked = new.asked; once = new.once; among = opening_among new.more (looks new.more new.asked) }) asked footprint_of
+
+-- behind what the opening asked for the edits look
+module _ (holds : Option Tree) (taken : List ℕ) (mid after : FolderState) where
+  abbrev EditsAsk : Tree → Type 0
+  EditsAsk tree = IfSome mid.asked (λ list. AsksFor (IsSessionLook tree taken) list after.asked)
+
+  same_list : (one other : List (List ℕ)) → Some one ≡ Some other → one ≡ other
+  same_list one other e = cc
+
+  among_both : (old : List (List ℕ)) (new : AsksNoPathTwice old after) (first : AsksFresh holds taken old mid) → IfSome holds EditsAsk → IfSome holds (λ tree. All (IsSessionLook tree taken) new.more)
+  among_both old new first edits =
+      if_two holds (λ tree one ask.
+      let last = subst (λ (t : Option (List (List ℕ))). IfSome t (λ list. AsksFor (IsSessionLook tree taken) list after.asked)) first.asked ask in
+      let both = first.more ++ last.more in
+      let same : old ++ new.more ≡ old ++ both = same_list (old ++ new.more) (old ++ both) (sym new.asked ∙ last.is ∙ ap Some (append_assoc old first.more last.more)) in
+      subst (λ (more : List (List ℕ)). All (IsSessionLook tree taken) more) (sym (append_cancel_left old new.more both same))
+      (All-append (IsSessionLook tree taken) first.more last.more one last.among)) first.among edits
+
+  fresh_then : (told : Option (List (List ℕ))) → IfSome told (λ old. AsksNoPathTwice old after) → IfSome told (λ old. AsksFresh holds taken old mid) → IfSome holds EditsAsk → IfSome told (λ old. AsksFresh holds taken old after)
+  fresh_then told asked first edits =
+      if_two told (λ old new one. record { more = new.more; asked = new.asked; once = new.once; among = among_both old new one edits }) asked first
+
+within_of : (told : Option (List (List ℕ))) (holds : Option Tree) (taken : List ℕ) (after : FolderState) → IfSome told (λ old. AsksFresh holds taken old after) → IfSome told (λ old. AsksWithin holds taken old after)
+within_of told holds taken after fresh =
+    if_some told (λ old new. record { first = []; is_first = inl refl; then = subst (λ (list : List (List ℕ)). AsksFresh holds taken list after) (sym (append-nil old)) new }) fresh
 
 -- ---- the beginning
 
@@ -188,7 +231,7 @@ module _ (config : Config) (session : Session) where
   module _ (holds : Option Tree) (told : Option SessionState) (begun : IsBegun told holds) (before mid after : FolderState) (same_tree : before.holds ≡ holds) (quiet_before : mid.look_faults ≡ before.look_faults)
       (view last : EditorState) (view_told : view.told ≡ told) (view_faults : view.faults ≡ mid.look_faults) (last_faults : last.faults ≡ after.look_faults) (source later : SourceState) (middle : SinkState) (taken : List ℕ) where
     abbrev first : Now
-    first = now_at view fresh None source middle
+    first = now_at view fresh_reader None source middle
 
     up : {P : SessionState → Type 0} {Q : Tree → Type 0} → ((state : SessionState) (tree : Tree) → Begins tree state → P state → Q tree) → IfSome view.told P → IfSome before.holds Q
     up {P} {Q} f p = subst (λ (h : Option Tree). IfSome h Q) (sym same_tree) (lifted told holds begun f (subst (λ (t : Option SessionState). IfSome t P) view_told p))
@@ -227,26 +270,57 @@ module _ (config : Config) (session : Session) where
     awaited_with : IfSome view.told (λ state. IsAwaitedBy state taken) → IfSome before.holds (λ tree. IsAwaited tree taken)
     awaited_with awaited = up (awaited_then taken) awaited
 
--- ---- a session that is opened
+-- ---- the steps
 
-once_of : (told : Option (List (List ℕ))) (after : FolderState) → IfSome told (λ old. AsksNoPathTwice old after) → IfSome told (λ old. AsksOnce old after)
-once_of told after asked = if_some told (λ old new. record { first = []; is_first = inl refl; more = new.more; asked = new.asked; once = new.once }) asked
+few_sum : (spent mid after most some : ℕ) → mid ≤ spent + most → after ≤ mid + some → after ≤ spent + most + some
+few_sum spent mid after most some one other = omega (arith, one, other)
+
+module _ (spent mid : ℕ) (few : mid ≤ spent + most_steps) where
+  spends_none : SessionSpends [] spent mid
+  spends_none = spends_nothing (take (limit_number Limited) []) (spent + most_steps) mid few
+
+  spends_more : (after last : ℕ) → last ≡ after → (input : List ℕ) → SpendsFor input mid last → SpendsFor input (spent + most_steps) after
+  spends_more after last e input is = record {
+    edits = is.edits;
+    held = is.held;
+    behind = is.behind;
+    made = is.made;
+    few = few_sum spent mid after most_steps (is.edits * most_steps) few (subst (λ (n : ℕ). n ≤ mid + is.edits * most_steps) e is.few);
+  }
+
+-- ---- a session that is opened
 
 none_awaited : (told : Option Tree) → IfSome told (λ tree. IsAwaited tree [])
 none_awaited told = if_all told (λ tree. inl refl)
 
-module _ (config : Config) (before mid : FolderState) (session : Session) (opening : OpensSession config before (Ok session) mid) (is_config : IsConfigAt refresh_words Refresh config before) where
+module _ (config : Config) (before mid : FolderState) (session : Session) (opening : OpensSession config before (Ok session) mid) (is_config : IsConfigAt refresh_words Refresh config before) (spent spent_mid : ℕ) (few : spent_mid ≤ spent + most_steps) where
   abbrev told_first : Option SessionState
   told_first = begun_told config session before.holds opening.opened
 
   abbrev view_first : EditorState
-  view_first = record { told = told_first; faults = mid.look_faults }
+  view_first = record { told = told_first; faults = mid.look_faults; asked = mid.asked; spent = spent_mid }
 
   is_begun : IsBegun config session told_first before.holds
   is_begun = begun_is config session before.holds opening.opened is_config.told
 
-  view_is : IsViewOf mid session view_first
-  view_is = record { told = begun_stands config session mid before.holds opening.opened opening.looks.tree; faults = refl }
+  view_is : IsViewOf mid session spent_mid view_first
+  view_is = record { told = begun_stands config session mid before.holds opening.opened opening.looks.tree; faults = refl; asked = refl; spent = refl }
+
+  fresh_first : (taken : List ℕ) → IfSome before.asked (λ old. AsksFresh before.holds taken old mid)
+  fresh_first taken = fresh_opening config before mid opening.asked opening.footprint is_config.told taken
+
+  module _ (taken : List ℕ) (after : FolderState) (asked : Option (List (List ℕ))) (e : asked ≡ after.asked) where
+    abbrev EditsTell : SessionState → Type 0
+    EditsTell state = IfSome mid.asked (λ list. AsksFor (IsTriedLook state (take (limit_number Limited) taken)) list asked)
+
+    told_looks : (state : SessionState) (tree : Tree) → Begins config session tree state → EditsTell state → EditsAsk before.holds taken mid after tree
+    told_looks state tree begins ask =
+        if_some mid.asked (λ list one.
+        subst (λ (t : Option (List (List ℕ))). AsksFor (IsSessionLook tree taken) list t) e
+        (for_weaker (IsTriedLook state (take (limit_number Limited) taken)) (IsSessionLook tree taken) (λ path look. of_edit state begins.opens_at look) list asked one)) ask
+
+    edits_ask : IfSome told_first EditsTell → IfSome before.holds (EditsAsk before.holds taken mid after)
+    edits_ask looks = lifted config session told_first before.holds is_begun told_looks looks
 
   no_fault_yet : (source : SourceState) → NoFault before mid source source
   no_fault_yet source = (quiet_opening config before mid session opening, refl)
@@ -262,62 +336,82 @@ module _ (config : Config) (before mid : FolderState) (session : Session) (openi
 
   module _ (source : SourceState) (out gone : SinkState) (result : ℕ) (output_later : out.faults ≤ gone.faults) where
     -- own: nothing was taken, and nothing more was looked at
-    at_once : SessionStops before mid source source [] out gone result → SessionEnds before mid source source out gone result
+    at_once : SessionStops before mid source source [] out gone result → HoldsSession before mid source source out gone result spent spent_mid
     at_once stops = record {
+      ends = record {
+        tree = opening.looks.tree;
+        writes = opening.looks.writes;
+        looks_later = opening.looks.later;
+        output_later = output_later;
+        taken = [];
+        takes = takes_none source;
+        few = omega arith;
+        awaited = none_awaited before.holds;
+        asked = within_of before.asked before.holds [] mid (fresh_first []);
+        steps = spends_none spent spent_mid few;
+        stops = stops;
+        serves = if_all before.holds (λ tree. session_maps_serve tree []);
+      };
+      fresh = fresh_first [];
+    }
+
+    as_left : (after : FolderState) (later : SourceState) (spent_after : ℕ) → after ≡ mid → later ≡ source → spent_after ≡ spent_mid → SessionStops before mid source source [] out gone result
+        → HoldsSession before after source later out gone result spent spent_after
+    as_left after later spent_after same taken rested stops =
+        subst (λ (n : ℕ). HoldsSession before after source later out gone result spent n) (sym rested)
+        (subst (λ (s : SourceState). HoldsSession before after source s out gone result spent spent_mid) (sym taken)
+        (subst (λ (f : FolderState). HoldsSession before f source source out gone result spent spent_mid) (sym same) (at_once stops)))
+
+    pub opened_ends : (after : FolderState) (later : SourceState) (spent_after : ℕ) → OpenedEnds session mid after source later out gone result spent_mid spent_after → HoldsSession before after source later out gone result spent spent_after
+    opened_ends after later spent_after (wants same taken rested is) =
+        as_left after later spent_after same taken rested
+        (runs.said memory_status memory_line (runs.memory [] (no_fault_yet source) (if_all before.holds (λ tree. unopened)) refl refl) is)
+    opened_ends after later spent_after (cut_off same taken rested is_status gives rose) =
+        as_left after later spent_after same taken rested (runs.cut_off (opened_line session) (no_fault_yet source) front_line is_status gives rose)
+    opened_ends after later spent_after (replies middle closed got quiet talks asks) =
+        let seen = talks view_first view_is in
+        let done = seen.holds in
+        let looks_later = asks.later in
+        let first_later = opening.looks.later in
+        let fresh = fresh_then before.holds done.taken mid after before.asked (asked_with config before mid session opening after closed asks) (fresh_first done.taken) (edits_ask done.taken after seen.at.asked seen.is.asked done.looks) in
+        record {
+          ends = record {
+            tree = asks.tree ∙ opening.looks.tree;
+            writes = asks.writes ∙ opening.looks.writes;
+            looks_later = omega (arith, looks_later, first_later);
+            output_later = output_later;
+            taken = done.taken;
+            takes = done.takes;
+            few = done.few;
+            awaited = awaited_with config session before.holds told_first is_begun before mid after refl (quiet_opening config before mid session opening) view_first seen.at refl refl seen.is.faults source later middle done.taken done.awaited;
+            asked = within_of before.asked before.holds done.taken after fresh;
+            steps = spends_more spent spent_mid few spent_after seen.at.spent seen.is.spent (take (limit_number Limited) done.taken) done.steps;
+            stops = stops_then config session before.holds told_first is_begun before mid after refl (quiet_opening config before mid session opening) view_first seen.at refl refl seen.is.faults source later middle done.taken out gone result got quiet done.stops;
+            serves = if_all before.holds (λ tree. session_maps_serve tree done.taken);
+          };
+          fresh = fresh;
+        }
+
+-- ---- a session that isn't opened
+
+module _ (config : Config) (before mid : FolderState) (source : SourceState) (out gone : SinkState) (result : ℕ) (output_later : out.faults ≤ gone.faults) (is_config : IsConfigAt refresh_words Refresh config before) (spent spent_mid : ℕ) (few : spent_mid ≤ spent + most_steps) where
+  pub refused_ends : (why : Stop) → OpensSession config before (Err why) mid → RefusedEnds why out gone result → HoldsSession before mid source source out gone result spent spent_mid
+  refused_ends why opening is = record {
+    ends = record {
       tree = opening.looks.tree;
       writes = opening.looks.writes;
       looks_later = opening.looks.later;
       output_later = output_later;
       taken = [];
       takes = takes_none source;
+      few = omega arith;
       awaited = none_awaited before.holds;
-      asked = once_of before.asked mid opening.asked;
-      stops = stops;
+      asked = within_of before.asked before.holds [] mid (fresh_opening config before mid opening.asked opening.footprint is_config.told []);
+      steps = spends_none spent spent_mid few;
+      stops = stopped why opening is;
       serves = if_all before.holds (λ tree. session_maps_serve tree []);
-    }
-
-    pub opened_ends : (after : FolderState) (later : SourceState) → OpenedEnds session mid after source later out gone result → SessionEnds before after source later out gone result
-    opened_ends after later (wants same taken is) =
-        subst (λ (s : SourceState). SessionEnds before after source s out gone result) (sym taken)
-        (subst (λ (f : FolderState). SessionEnds before f source source out gone result) (sym same)
-        (at_once (runs.said memory_status memory_line (runs.memory [] (no_fault_yet source) (if_all before.holds (λ tree. unopened)) refl refl) is)))
-    opened_ends after later (cut_off same taken is_status gives rose) =
-        subst (λ (s : SourceState). SessionEnds before after source s out gone result) (sym taken)
-        (subst (λ (f : FolderState). SessionEnds before f source source out gone result) (sym same)
-        (at_once (runs.cut_off (opened_line session) (no_fault_yet source) front_line is_status gives rose)))
-    opened_ends after later (replies middle closed got quiet talks asks) =
-        let seen = talks view_first view_is in
-        let done = seen.holds in
-        let looks_later = asks.later in
-        let first_later = opening.looks.later in
-        record {
-          tree = asks.tree ∙ opening.looks.tree;
-          writes = asks.writes ∙ opening.looks.writes;
-          looks_later = omega (arith, looks_later, first_later);
-          output_later = output_later;
-          taken = done.taken;
-          takes = done.takes;
-          awaited = awaited_with config session before.holds told_first is_begun before mid after refl (quiet_opening config before mid session opening) view_first seen.at refl refl seen.is.faults source later middle done.taken done.awaited;
-          asked = once_of before.asked after (asked_with config before mid session opening after closed asks);
-          stops = stops_then config session before.holds told_first is_begun before mid after refl (quiet_opening config before mid session opening) view_first seen.at refl refl seen.is.faults source later middle done.taken out gone result got quiet done.stops;
-          serves = if_all before.holds (λ tree. session_maps_serve tree done.taken);
-        }
-
--- ---- a session that isn't opened
-
-module _ (config : Config) (before mid : FolderState) (source : SourceState) (out gone : SinkState) (result : ℕ) (output_later : out.faults ≤ gone.faults) (is_config : IsConfigAt refresh_words Refresh config before) where
-  pub refused_ends : (why : Stop) → OpensSession config before (Err why) mid → RefusedEnds why out gone result → SessionEnds before mid source source out gone result
-  refused_ends why opening is = record {
-    tree = opening.looks.tree;
-    writes = opening.looks.writes;
-    looks_later = opening.looks.later;
-    output_later = output_later;
-    taken = [];
-    takes = takes_none source;
-    awaited = none_awaited before.holds;
-    asked = once_of before.asked mid opening.asked;
-    stops = stopped why opening is;
-    serves = if_all before.holds (λ tree. session_maps_serve tree []);
+    };
+    fresh = fresh_opening config before mid opening.asked opening.footprint is_config.told [];
   }
     where
       stopped : (why : Stop) → OpensSession config before (Err why) mid → RefusedEnds why out gone result → SessionStops before mid source source [] out gone result

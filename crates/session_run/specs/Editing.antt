@@ -1,6 +1,7 @@
 -- A session as one that makes edits.
 --     IsToldBy folder session told    a tree that the folder tells stands behind the session, and this is its state
---     IsViewOf folder session view    the same, with the looks that failed
+--     IsViewOf folder session steps view      the same, with the looks that failed, the paths that the folder was asked
+--                                     for, and the steps that were taken
 --     look_state references folder session    what the folder tells, and what the session keeps of it
 --     LooksSome references before old after new       what calls ask that may have ended with a fault
 --     SaysLine line result            the line is said, or memory is wanting
@@ -30,9 +31,11 @@ abbrev pub IsToldBy : FolderState → Session → Option SessionState → Type 0
 IsToldBy folder session None = folder.holds ≡ None
 IsToldBy folder session (Some state) = StandsOn folder session state
 
-pub record IsViewOf (folder : FolderState) (session : Session) (view : EditorState) : Type 0 where
+pub record IsViewOf (folder : FolderState) (session : Session) (steps : ℕ) (view : EditorState) : Type 0 where
   pub told : IsToldBy folder session view.told
   pub faults : view.faults ≡ folder.look_faults
+  pub asked : view.asked ≡ folder.asked
+  pub spent : view.spent ≡ steps
 
 abbrev pub look_state : List ℕ → FolderState → Session → LookState
 look_state references folder session =

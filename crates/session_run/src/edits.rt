@@ -23,8 +23,8 @@ pub(crate) fn make_edit<F: Folder, L: Ledger>(
     folder: &mut F,
     steps: &mut Steps<L>,
 ) -> Result<Bytes, EditorFault>
-    ensures edits { EditsFrom (IsViewOf (F.state folder.old) session.old) edit.now result
-        (IsViewOf (F.state folder.new) session.new) }
+    ensures edits { EditsFrom (IsViewOf (F.state folder.old) session.old steps.old) edit.now result
+        (IsViewOf (F.state folder.new) session.new steps.new) }
     ensures asks { (references : List ℕ) → EditAsks (look_state references (F.state folder.old) session.old) result
         (look_state references (F.state folder.new) session.new) }
 {

@@ -19,7 +19,7 @@ impl<'a, 'b, 'c, F: Folder, L: Ledger> Editor for SessionEditor<'a, 'b, 'c, F, L
     ghost use Rattle.std.specs.Prelude.{[], ◌∷◌};
     ghost use Rattle.session_run.specs.Editing.{IsViewOf, look_state};
 
-    ghost views = { λ editor view. IsViewOf (F.state editor.folder.now) editor.session.now view };
+    ghost views = { λ editor view. IsViewOf (F.state editor.folder.now) editor.session.now editor.steps.now view };
 
     ghost looks = { λ editor. look_state (editor.session.ghost_name ∷ editor.folder.ghost_name
         ∷ editor.steps.ghost_name ∷ []) (F.state editor.folder.now) editor.session.now };

@@ -3,10 +3,10 @@ ghost use Rattle.config_spec.specs.declared.Command.TheVariants.{Refresh};
 ghost use Rattle.generation.specs.Generating.{AsksNoPathTwice};
 ghost use Rattle.generator_spec.specs.Asked.{IsConfigAt};
 ghost use Rattle.generator_spec.specs.Ending.{Ends};
-ghost use Rattle.session_spec.specs.SessionRuns.{SessionEnds, refresh_words};
+ghost use Rattle.session_spec.specs.Openings.{refresh_words};
 ghost use Rattle.session_talk.specs.Editors.{EditorState, Seen};
 ghost use Rattle.session_run.specs.Editing.{IsViewOf, LooksSome};
-ghost use Rattle.session_run.specs.Sessions.{OpenedEnds, RefusedEnds, TalksOn};
+ghost use Rattle.session_run.specs.Sessions.{HoldsSession, OpenedEnds, RefusedEnds, TalksOn};
 
 use crate::session_editor::SessionEditor;
 use edit_session::Session;
@@ -34,8 +34,8 @@ pub fn session<F: Folder, I: Source, O: Sink, L: Ledger>(
     steps: &mut Steps<L>,
 ) -> u8
     ensures ends { IsConfigAt refresh_words Refresh config (F.state folder.old)
-        → SessionEnds (F.state folder.old) (F.state folder.new) (I.state input.old) (I.state input.new)
-        (O.state out.old) (O.state out.new) result }
+        → HoldsSession (F.state folder.old) (F.state folder.new) (I.state input.old) (I.state input.new)
+        (O.state out.old) (O.state out.new) result steps.old steps.new }
     ensures asked { IfSome (F.state folder.old).asked (λ old. AsksNoPathTwice old (F.state folder.new)) }
 {
     match Session::open(alloc, config, folder, steps) {
@@ -69,7 +69,7 @@ fn opened<F: Folder, I: Source, O: Sink, L: Ledger>(
     steps: &mut Steps<L>,
 ) -> u8
     ensures ends { OpenedEnds session (F.state folder.old) (F.state folder.new) (I.state input.old) (I.state input.new)
-        (O.state out.old) (O.state out.new) result }
+        (O.state out.old) (O.state out.new) result steps.old steps.new }
     ensures later { (O.state out.old).faults ≤ (O.state out.new).faults }
 {
     let mut session = session;
@@ -92,8 +92,8 @@ fn talk<F: Folder, I: Source, O: Sink, L: Ledger>(
     out: &mut O,
     steps: &mut Steps<L>,
 ) -> u8
-    ensures talks { (before : EditorState) → IsViewOf (F.state folder.old) session.old before
-        → Seen (IsViewOf (F.state folder.new) session.new) (λ after. TalksOn before (I.state input.old)
+    ensures talks { (before : EditorState) → IsViewOf (F.state folder.old) session.old steps.old before
+        → Seen (IsViewOf (F.state folder.new) session.new steps.new) (λ after. TalksOn before (I.state input.old)
         (O.state out.old) after (I.state input.new) (O.state out.new) result) }
     ensures asks { (references : List ℕ) → LooksSome references (F.state folder.old) session.old
         (F.state folder.new) session.new }

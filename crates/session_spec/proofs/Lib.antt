@@ -11,3 +11,7 @@ pub mod LinesWhole
 pub mod Standings
 pub mod ShapedSessions
 pub mod FaultsOfEdits
+pub mod SessionLooking
+pub mod SessionSpending
+pub mod FreshMaps
+pub mod SessionsPromise

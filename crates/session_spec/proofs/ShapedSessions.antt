@@ -24,7 +24,8 @@ use Rattle.session_spec.specs.Conversations.{Turn, end_reply, bad_line, map_repl
 use Rattle.session_spec.specs.Conversations.{Conversation, edits, collects, shows_it, ended, bad, stopped}
 use Rattle.session_spec.specs.Laws.{SessionsAreShaped}
 use Rattle.session_spec.specs.SessionRuns as session
-use Rattle.session_spec.specs.SessionRuns.{refresh_words, opening_line, SessionComesTo, IsOpenedText, IsSessionShaped}
+use Rattle.session_spec.specs.Openings.{refresh_words, opening_line}
+use Rattle.session_spec.specs.SessionRuns.{SessionComesTo, IsOpenedText, IsSessionShaped}
 use Rattle.session_spec.specs.SessionStates.{SessionState}
 use Rattle.session_spec.proofs.WholeSessions.{asks_anew}
 

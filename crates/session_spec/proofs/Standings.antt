@@ -14,7 +14,8 @@ use Rattle.session_spec.specs.Conversations.{Conversation, Answers}
 use Rattle.session_spec.specs.Conversations as conversation
 use Rattle.session_spec.specs.Replies.{Replies}
 use Rattle.session_spec.specs.SessionLines.{Rest}
-use Rattle.session_spec.specs.SessionRuns.{OpensAt, opening_line, SessionComesTo, RepliesTo, RepliesToAll, IsStanding}
+use Rattle.session_spec.specs.Openings.{OpensAt, opening_line}
+use Rattle.session_spec.specs.SessionRuns.{SessionComesTo, RepliesTo, RepliesToAll, IsStanding}
 use Rattle.session_spec.specs.Laws.{SessionsEnd}
 use Rattle.session_spec.specs.SessionRuns as session
 use Rattle.session_spec.specs.SessionStates.{SessionState}

@@ -27,7 +27,8 @@ use Rattle.generator_spec.proofs.Generations.{some_generation, one_text}
 use Rattle.generator_spec.proofs.Outcomes.{one_run_refusal, refused_or_written}
 use Rattle.session_spec.specs.Conversations.{Answers}
 use Rattle.session_spec.specs.Laws.{SameAnswer, OneSession, SomeSession, HasSession}
-use Rattle.session_spec.specs.SessionRuns.{refresh_words, OpensAt, opens, opening_line, SessionComesTo, refused, replied}
+use Rattle.session_spec.specs.Openings.{refresh_words, OpensAt, opens, opening_line}
+use Rattle.session_spec.specs.SessionRuns.{SessionComesTo, refused, replied}
 use Rattle.session_spec.specs.SessionStates.{SessionState, Counts, counts_of, IsGenerated}
 use Rattle.session_spec.proofs.Conversing.{one_answer}
 use Rattle.session_spec.proofs.Replying.{one_count}
@@ -51,7 +52,7 @@ module _ (tree : Tree) where
   one_opening _ _ (opens config map counts is generated) (opens second other others is_too generated_too) =
       same_state config second map other counts others (one_config refresh_words tree Refresh Refresh config second is is_too).one_config generated generated_too
 
-  refused_or_opened : (why : Refusal) (state : SessionState) → RefusesRun refresh_words tree why → OpensAt tree state → ⊥
+  pub refused_or_opened : (why : Refusal) (state : SessionState) → RefusesRun refresh_words tree why → OpensAt tree state → ⊥
   refused_or_opened why _ refuses (opens config map counts is generated) =
       refused_or_written refresh_words tree why Refresh config map refuses is (nothing Refresh refresh) generated.generates tt
 

@@ -3,6 +3,7 @@ use Rattle.std.specs.FinMap.{get}
 use Rattle.std.specs.Prelude.{◌≡◌, ◌≤◌, ◌⊎◌, ◌++◌, ◌∷◌, ⊤, ℕ, true, List, length, flat_map, Ok, Err, All}
 use Rattle.tree_spec.specs.Limits.{limit_number}
 use Rattle.tree_spec.specs.Paths.{IsPath}
+use Rattle.tree_spec.specs.States.{FolderState, SourceState, SinkState}
 use Rattle.tree_spec.specs.Trees.{Tree, IsTree, Places}
 use Rattle.tree_spec.specs.declared.Entry.TheVariants.{Stored}
 use Rattle.tree_spec.specs.declared.LimitName.TheVariants.{Session}
@@ -15,7 +16,10 @@ use Rattle.session_spec.specs.Conversations.{Answers, ends, refuses, stops, end_
 use Rattle.session_spec.specs.EditFaults.{CanRefuseEdit}
 use Rattle.session_spec.specs.Edits.{Draft, can_put, put_file, edited, then_edited}
 use Rattle.session_spec.specs.Replies.{IsRefused, Replies, IsAccepted, Leads, AllAccepted}
-use Rattle.session_spec.specs.SessionRuns.{SessionComesTo, IsStanding, IsSessionShaped}
+use Rattle.session_spec.specs.SessionLooks.{IsTried, IsSessionLook}
+use Rattle.session_spec.specs.Openings.{OpensAt}
+use Rattle.session_spec.specs.SessionPromises.{SessionPromises}
+use Rattle.session_spec.specs.SessionRuns.{SessionComesTo, RepliesTo, IsStanding, IsSessionShaped, SessionEnds}
 use Rattle.session_spec.specs.SessionStates.{SessionState, draft_of, config_with, IsCurrent}
 use Rattle.session_spec.specs.Talks.{Standing, begun, turn_of, Talks}
 
@@ -155,6 +159,38 @@ abbrev pub TalksStayCurrent : Type 0
 TalksStayCurrent =
     (at later : Standing) (out : List ℕ) → IsCurrent at.state → Talks at out later → IsCurrent later.state
 
+-- own law: an edit to which an input comes is one of a state whose map is generated for its tree and config
+abbrev pub TriedAreCurrent : Type 0
+TriedAreCurrent =
+    (tree : Tree) (first state : SessionState) (input : List ℕ) (edit : List Change) → OpensAt tree first
+    → IsTried (begun first input) state edit → IsCurrent state
+
+-- own law: where a session looks for the first bytes of an input, it looks for it all
+abbrev pub LooksStay : Type 0
+LooksStay =
+    (tree : Tree) (taken more path : List ℕ) → IsSessionLook tree taken path → IsSessionLook tree (taken ++ more) path
+
+-- own: these edits were accepted, one after another; the tree and the entries are those behind all their changes, and
+-- the map is the one that is generated for them
+pub record IsFreshAfter (first later : SessionState) : Type 0 where
+  pub edits : List (List Change)
+  pub accepted : AllAccepted first edits later
+  pub behind : IsBehind first (all_changes edits) later
+  pub fresh : IsCurrent later
+
+-- wherever a session stands that is opened on a tree, some edits were accepted, and its map is that of a fresh
+-- generation for what they leave; what was refused is without effect
+abbrev pub MapsAreFreshAfterEdits : Type 0
+MapsAreFreshAfterEdits =
+    (tree : Tree) (first : SessionState) (input out : List ℕ) (later : Standing) → OpensAt tree first
+    → Talks (begun first input) out later → IsFreshAfter first later.state
+
+-- what a session says while it takes an input is the front of what it says to it all, whatever comes behind
+abbrev pub RepliesAreFront : Type 0
+RepliesAreFront =
+    (tree : Tree) (taken more front out : List ℕ) (status : ℕ) → RepliesTo tree taken front
+    → SessionComesTo tree (taken ++ more) status out → BeginsWith front out
+
 -- a session on a tree says one text to an input at most, with one status
 abbrev pub OneSession : Type 0
 OneSession =
@@ -171,8 +207,8 @@ pub record HasSession (tree : Tree) (input : List ℕ) : Type 0 where
 abbrev pub SomeSession : Type 0
 SomeSession = (tree : Tree) (input : List ℕ) → HasSession tree input
 
--- whatever the tree and the input, what it says is the line of the opening, replies and one of its ends, with the status
--- of this end; or a refusal of `refresh`
+-- whatever the tree and the input, what it says is the line of the opening, replies and one of its ends, with the
+-- status of this end; or a refusal of `refresh`
 abbrev pub SessionsAreShaped : Type 0
 SessionsAreShaped =
     (tree : Tree) (input text : List ℕ) (status : ℕ) → SessionComesTo tree input status text
@@ -196,3 +232,10 @@ abbrev pub SessionsEnd : Type 0
 SessionsEnd =
     (tree : Tree) (taken text : List ℕ) (at : Standing) → length taken ≤ limit_number Session
     → IsStanding tree taken text at → EndsThere tree taken text at
+
+-- a session that ends as is promised keeps these promises
+abbrev pub SessionsKeepPromises : Type 0
+SessionsKeepPromises =
+    (before after : FolderState) (source later : SourceState) (out out_after : SinkState)
+    (result spent spent_after : ℕ) → SessionEnds before after source later out out_after result spent spent_after
+    → SessionPromises before after source later out out_after result

@@ -6,6 +6,11 @@ pub mod SessionLines
 pub mod Conversations
 pub mod Talks
 pub mod TakenInput
+pub mod EditLooks
+pub mod Openings
+pub mod SessionLooks
+pub mod SessionSteps
 pub mod SessionRuns
+pub mod SessionPromises
 pub mod Laws
 pub mod WorkedExamples

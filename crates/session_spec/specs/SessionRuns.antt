@@ -1,32 +1,24 @@
--- A whole session, from the words that ask for one. own.
---     refresh_words                   the words that ask for the map anew: a session is opened on the same project
---     OpensAt tree state              a session is opened with this state
---     opening_line state              what is said of it then
+-- A whole session, as it is opened, and what is promised of it. own.
 --     SessionComesTo tree input status text     what a session on this tree says to this input, and its exit status
---     RepliesTo tree taken text       the line of the opening and replies to lines of these bytes, or nothing yet; of those
---                                     bytes that the limit allows
+--     RepliesTo tree taken text       the line of the opening and replies to lines of these bytes, as far as the limit
+--                                     allows, or nothing yet
 --     RepliesToAll tree taken text    so, to each line that stands whole in them
 --     IsStanding tree taken text at   where a session stands that took these bytes and said this
---     IsAwaited tree taken            the last of these bytes were taken, all at once, where what came before them didn't
---                                     end the session
---     AsksOnce old after              the folder was asked for the project's path, and then for none twice
---     MapsServe tree input            each map that such a session can show serves the tree and config of its state
+--     IsAwaited tree taken            but for the last of these bytes, as many as a take may ask for, they don't end
+--                                     the session
+--     StatesServe tree input            each map that such a session can show serves the tree and config of its state
 --     IsSessionShaped status text     status and text belong together, whatever the folder tells
---     SessionSays before after source later status text      why a session ends with this status and this text
+--     SessionSays before after source later taken status text      why a session ends with this status and this text
 --     SessionStops before after source later taken out out_after result      all of the text went out, or the sink
 --                                     failed and that ended the session
---     SessionEnds before after source later out out_after result      all that is promised of a session, whatever
---                                     folder, source and sink do
-use Rattle.std.specs.Prelude.{◌≡◌, ◌≤◌, ◌⊎◌, ◌++◌, ◌∷◌, [], ℕ, List, length, take, codes, bytes_eq, Some, IfSome}
-use Rattle.std.specs.List.{IsDistinct}
+--     SessionEnds before after source later out out_after result spent spent_after    all that is promised of a
+--                                     session, whatever folder, source and sink do
+use Rattle.std.specs.Prelude.{◌≡◌, ◌≤◌, ◌⊎◌, ◌+◌, ◌++◌, [], ℕ, List, length, take, IfSome}
 use Rattle.tree_spec.specs.Counts.{Rose}
 use Rattle.tree_spec.specs.Limits.{limit_number}
 use Rattle.tree_spec.specs.States.{FolderState, SourceState, SinkState}
 use Rattle.tree_spec.specs.Trees.{Tree}
 use Rattle.tree_spec.specs.declared.LimitName.TheVariants.{Session}
-use Rattle.trace_spec.specs.Modules.{Config}
-use Rattle.config_spec.specs.Projects.{project_path, IsConfigOf}
-use Rattle.config_spec.specs.declared.Command.TheVariants.{Refresh}
 use Rattle.generator_spec.specs.Ending.{CanRefuse, Ends, Gives}
 use Rattle.generator_spec.specs.Lines.{status_of, line_of, limit_line, memory_line, read_fault_line}
 use Rattle.generator_spec.specs.Outcome.{RefusesRun}
@@ -35,28 +27,18 @@ use Rattle.generator_spec.specs.Statuses.{done_status, file_status, limit_status
 use Rattle.generator_spec.specs.Statuses.{write_fault_status}
 use Rattle.generator_spec.specs.declared.Refusal.{Refusal}
 use Rattle.session_spec.specs.Conversations.{Answers, stops, end_reply, bad_line}
+use Rattle.session_spec.specs.Openings.{refresh_words, OpensAt, opening_line}
 use Rattle.session_spec.specs.Replies.{accepted_line}
+use Rattle.session_spec.specs.SessionLooks.{AsksWithin}
+use Rattle.session_spec.specs.SessionSteps.{SessionSpends}
 use Rattle.session_spec.specs.SessionStates.{Counts, SessionState, IsGenerated}
 use Rattle.session_spec.specs.Talks.{Standing, begun, turn_of, Talks}
 use Rattle.session_spec.specs.TakenInput.{Takes, taken_at_once}
 
 -- ---- what is said
 
-abbrev pub refresh_words : List (List ℕ)
-refresh_words = codes "refresh" ∷ []
-
--- own: its config is the project's, and the map is generated for it
-pub data OpensAt (tree : Tree) : SessionState → Type 0 where
-  opens :
-      (config : Config) (map : List ℕ) (counts : Counts) → IsConfigOf refresh_words tree Refresh config
-      → IsGenerated tree config map counts
-      → OpensAt tree (record { tree = tree; config = config; map = map; counts = counts })
-
-abbrev pub opening_line : SessionState → List ℕ
-opening_line state = accepted_line state.counts
-
--- own: what would be refused anew isn't opened, and no input is read then; else each line is answered behind the line of
--- the opening
+-- own: what would be refused anew isn't opened, and no input is read then; else each line is answered behind the line
+-- of the opening
 pub data SessionComesTo (tree : Tree) (input : List ℕ) : ℕ → List ℕ → Type 0 where
   refused :
       (why : Refusal) → RefusesRun refresh_words tree why → SessionComesTo tree input (status_of why) (line_of why)
@@ -69,7 +51,8 @@ pub data RepliesTo (tree : Tree) (taken : List ℕ) : List ℕ → Type 0 where
   unopened : RepliesTo tree taken []
   opened :
       (state : SessionState) (out : List ℕ) (later : Standing) → OpensAt tree state
-      → Talks (begun state (take (limit_number Session) taken)) out later → RepliesTo tree taken (opening_line state ++ out)
+      → Talks (begun state (take (limit_number Session) taken)) out later
+      → RepliesTo tree taken (opening_line state ++ out)
 
 pub data RepliesToAll (tree : Tree) (taken : List ℕ) : List ℕ → Type 0 where
   opened :
@@ -99,24 +82,17 @@ pub record StandsBeforeLast (tree : Tree) (taken : List ℕ) : Type 0 where
 abbrev pub IsAwaited : Tree → List ℕ → Type 0
 IsAwaited tree taken = (taken ≡ []) ⊎ StandsBeforeLast tree taken
 
-pub record AsksOnce (old : List (List ℕ)) (after : FolderState) : Type 0 where
-  pub first : List (List ℕ)
-  pub is_first : (first ≡ []) ⊎ (first ≡ project_path ∷ [])
-  pub more : List (List ℕ)
-  pub asked : after.asked ≡ Some (old ++ (first ++ more))
-  pub once : IsDistinct bytes_eq more
-
-pub record MapServes (state : SessionState) : Type 0 where
+pub record StateServes (state : SessionState) : Type 0 where
   pub serves : Serves state.tree state.config state.map
   pub knows : KnowsModules state.tree state.config state.map
   pub smallest : IsSmallest state.tree state.config state.map
 
 -- own: wherever the session stands, its map is generated for its tree and config and leads each request to its file,
 -- with the digest of each module's file; no map that does so without keys that end in `/` has fewer mappings
-abbrev pub MapsServe : Tree → List ℕ → Type 0
-MapsServe tree input =
+abbrev pub StatesServe : Tree → List ℕ → Type 0
+StatesServe tree input =
     (state : SessionState) (out : List ℕ) (later : Standing) → OpensAt tree state → Talks (begun state input) out later
-    → IsGenerated later.state.tree later.state.config later.state.map later.state.counts × MapServes later.state
+    → IsGenerated later.state.tree later.state.config later.state.map later.state.counts × StateServes later.state
 
 -- ---- how it ends
 
@@ -147,8 +123,8 @@ pub data IsSessionShaped (status : ℕ) (text : List ℕ) : Type 0 where
       → IsSessionShaped status text
 
 -- own: the session says what is defined, and no fault was counted; or there is want of memory, or a fault that was
--- counted, behind the line of the opening and whole replies, or behind nothing. Where a take fails, each line that stands
--- whole in the bytes that were taken was answered
+-- counted, behind the line of the opening and whole replies, or behind nothing. Where a take fails, each line that
+-- stands whole in the bytes that were taken was answered
 pub data SessionSays (before after : FolderState) (source later : SourceState) (taken : List ℕ) (status : ℕ)
     (text : List ℕ) : Type 0 where
   outcome :
@@ -181,14 +157,16 @@ pub data SessionStops (before after : FolderState) (source later : SourceState) 
 
 -- own: nothing is written
 pub record SessionEnds (before after : FolderState) (source later : SourceState) (out out_after : SinkState)
-    (result : ℕ) : Type 0 where
+    (result spent spent_after : ℕ) : Type 0 where
   pub tree : after.holds ≡ before.holds
   pub writes : after.write_faults ≡ before.write_faults
   pub looks_later : before.look_faults ≤ after.look_faults
   pub output_later : out.faults ≤ out_after.faults
   pub taken : List ℕ
   pub takes : Takes source taken later
+  pub few : length taken ≤ limit_number Session + 1
   pub awaited : IfSome before.holds (λ tree. IsAwaited tree taken)
-  pub asked : IfSome before.asked (λ old. AsksOnce old after)
+  pub asked : IfSome before.asked (λ old. AsksWithin before.holds taken old after)
+  pub steps : SessionSpends taken spent spent_after
   pub stops : SessionStops before after source later taken out out_after result
-  pub serves : IfSome before.holds (λ tree. MapsServe tree taken)
+  pub serves : IfSome before.holds (λ tree. StatesServe tree taken)

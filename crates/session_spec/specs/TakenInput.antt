@@ -3,8 +3,8 @@
 --     Takes before bytes after        these bytes were taken from the source, one after another
 --     IsSpent state                   nothing is left
 --     taken_at_once                   how many bytes are taken at once, at most
---     IsNeeded unread taken           the last of the taken bytes were asked for, all at once, where what was at hand held
---                                     no whole line
+--     IsNeeded unread taken           but for the last of the taken bytes, as many as a take may ask for, what was at
+--                                     hand held no whole line
 use Rattle.std.specs.Prelude.{◌≡◌, ◌≤◌, ◌<◌, ◌⊎◌, ◌++◌, [], ℕ, List, length, Option, Some, None, IfSome}
 use Rattle.tree_spec.specs.States.{SourceState}
 use Rattle.session_spec.specs.SessionLines.{unfinished, read_line}

@@ -7,7 +7,8 @@ ghost use Rattle.session_spec.specs.Laws.{OneReply, SomeReply, RefusedLeaves, Ac
 ghost use Rattle.session_spec.specs.Laws.{PutPlaces, EditsKeepTree, FaultsAreOfEdits, EditsJoin, AcceptedJoin};
 ghost use Rattle.session_spec.specs.Laws.{OneAnswer, SomeAnswer, NothingBehindEnd};
 ghost use Rattle.session_spec.specs.Laws.{FrontReplies, TalksStayCurrent, OneSession, SomeSession, SessionsEnd};
-ghost use Rattle.session_spec.specs.Laws.{SessionsAreShaped};
+ghost use Rattle.session_spec.specs.Laws.{SessionsAreShaped, TriedAreCurrent, LooksStay, MapsAreFreshAfterEdits};
+ghost use Rattle.session_spec.specs.Laws.{RepliesAreFront, SessionsKeepPromises};
 ghost use Rattle.session_spec.specs.TakenInput.{taken_at_once};
 ghost use Rattle.session_spec.specs.WorkedExamples.{LineExamples, TurnExamples, EntryExamples};
 ghost use Rattle.session_spec.specs.WorkedExamples.{EditExamples, AnswerExamples};
@@ -122,6 +123,32 @@ pub fn front_replies()
 /// Wherever a session stands, its map is that of its tree and config.
 pub fn talks_stay_current()
     ensures { TalksStayCurrent }
+{}
+
+/// An edit to which an input comes is made of a state whose map is current.
+pub fn tried_are_current()
+    ensures { TriedAreCurrent }
+{}
+
+/// Where a session looks for the first bytes of an input, it looks for it all.
+pub fn looks_stay()
+    ensures { LooksStay }
+{}
+
+/// Whatever a session is told, its map is that of a fresh generation for the tree and the entries that the accepted
+/// edits leave.
+pub fn maps_are_fresh_after_edits()
+    ensures { MapsAreFreshAfterEdits }
+{}
+
+/// What a session says while it takes an input is the front of what it says to it all.
+pub fn replies_are_front()
+    ensures { RepliesAreFront }
+{}
+
+/// A session that ends as is promised keeps the promises of its caller.
+pub fn sessions_keep_promises()
+    ensures { SessionsKeepPromises }
 {}
 
 /// A session on a tree says one text to an input.

@@ -8,7 +8,7 @@ use Rattle.std.specs.List.{IsDistinct, AllByRecursion}
 use Rattle.std.specs.Prelude.{All, IfSome, bytes_eq}
 use Rattle.tree_spec.proofs.FootprintSets.{distinct_none}
 use Rattle.tree_spec.proofs.ToldStates.{if_some}
-use Rattle.session_talk.specs.EditorLooks.{LookState, AsksNew, AsksAndKeeps, AsksSome, AsksKeeping, TurnAsks}
+use Rattle.session_talk.specs.EditorLooks.{LookState, AsksUnkept, AsksAndKeeps, AsksSome, AsksKeeping, TurnAsks}
 
 -- ---- paths
 
@@ -66,7 +66,7 @@ some_of_keeping before after is = record {
 }
 
 module _ (before middle after : LookState) (first : AsksKeeping before middle) where
-  abbrev join : (old : List (List ℕ)) (one : AsksAndKeeps old before middle) → AsksNew (old ++ one.asks.more) middle after → AsksNew old before after
+  abbrev join : (old : List (List ℕ)) (one : AsksAndKeeps old before middle) → AsksUnkept (old ++ one.asks.more) middle after → AsksUnkept old before after
   join old one two = record {
     more = one.asks.more ++ two.more;
     asked = two.asked ∙ ap Some (append_assoc old one.asks.more two.more);
@@ -87,9 +87,9 @@ module _ (before middle after : LookState) (first : AsksKeeping before middle) w
         (All-weaker (λ path. middle.kept path ≡ true) (λ path. after.kept path ≡ true) keeps one.asks.more one.held) two.held;
   }
 
-  joined : (told : Option (List (List ℕ))) → IfSome told (λ old. AsksAndKeeps old before middle) → IfSome middle.folder.asked (λ old. AsksNew old middle after) → IfSome told (λ old. AsksNew old before after)
+  joined : (told : Option (List (List ℕ))) → IfSome told (λ old. AsksAndKeeps old before middle) → IfSome middle.folder.asked (λ old. AsksUnkept old middle after) → IfSome told (λ old. AsksUnkept old before after)
   joined None one two = tt
-  joined (Some old) one two = join old one (subst (λ (t : Option (List (List ℕ))). IfSome t (λ list. AsksNew list middle after)) one.asks.asked two)
+  joined (Some old) one two = join old one (subst (λ (t : Option (List (List ℕ))). IfSome t (λ list. AsksUnkept list middle after)) one.asks.asked two)
 
   joined_keeping : (told : Option (List (List ℕ))) → ((path : List ℕ) → middle.kept path ≡ true → after.kept path ≡ true) → IfSome told (λ old. AsksAndKeeps old before middle)
       → IfSome middle.folder.asked (λ old. AsksAndKeeps old middle after) → IfSome told (λ old. AsksAndKeeps old before after)

@@ -1,4 +1,5 @@
 pub mod AskLemmas
+pub mod LookLemmas
 pub mod ReadLemmas
 pub mod ReplyLemmas
 pub mod TalkLemmas

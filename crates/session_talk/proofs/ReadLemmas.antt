@@ -1,7 +1,7 @@
 -- What a line that is read comes to, and an input that gives none.
 use Rattle.std.proofs.Common.{◌≡◌, ◌≤◌, ◌<◌, ◌++◌, ◌∷◌, [], ℕ, List, length, Option, Some, None, Ok, Err, sym, ap, ◌∙◌, subst, inl, inr, arith}
 use Rattle.std.proofs.lemmas.List.{append-nil, append_assoc, length-append}
-use Rattle.std.specs.Prelude.{◌+◌, IfSome, IfNone}
+use Rattle.std.specs.Prelude.{◌+◌, take, IfSome, IfNone}
 use Rattle.tree_spec.specs.Counts.{Rose}
 use Rattle.tree_spec.specs.Limits.{limit_number}
 use Rattle.tree_spec.specs.States.{SourceState, SinkState}
@@ -14,7 +14,9 @@ use Rattle.session_spec.specs.Conversations.{Answers, bad_line}
 use Rattle.session_spec.specs.SessionLines as lines
 use Rattle.session_spec.specs.SessionLines.{malformed, unfinished}
 use Rattle.session_spec.specs.SessionStates.{SessionState}
+use Rattle.session_spec.specs.SessionSteps.{SpendsFor}
 use Rattle.session_spec.specs.TakenInput.{IsFront, Takes, IsSpent, IsNeeded}
+use Rattle.session_spec.proofs.SessionSpending.{edits_on, spends_allowed}
 use Rattle.session_spec.proofs.SomeAnswer.{read_shorter}
 use Rattle.session_spec.proofs.Standings.{answers_refused, answers_short, answers_long}
 use Rattle.session_spec.proofs.Talking.{with_more}
@@ -24,7 +26,8 @@ use Rattle.session_input.specs.declared.reading.Reading.TheVariants as reading
 use Rattle.session_input.specs.Readers.{Waiting, order_of, IsWithin, IsBeyond, IsRead, ReadsNext}
 use Rattle.session_input.proofs.ReaderLemmas.{takes_then}
 use Rattle.session_talk.specs.Editors.{EditorState}
-use Rattle.session_talk.specs.Talking.{Now, now_at, StandsAt, OrderedAt, IsAwaitedBy, GoesOn, IsOrdered, RepliesFront, RepliesAll, at_line, at_limit, IsQuiet, Converses, TellsEnd}
+use Rattle.session_talk.specs.Talking.{Now, now_at, StandsAt, OrderedAt, IsAwaitedBy, Looks, GoesOn, IsOrdered, RepliesFront, RepliesAll, at_line, at_limit, IsQuiet, Converses, TellsEnd}
+use Rattle.session_talk.proofs.LookLemmas.{looks_with, looks_within}
 use Rattle.session_talk.proofs.TalkLemmas.{if_told, two_told, replies_with, replies_all, ends_memory, ends_take_fault, ends_outcome, answers_input, answers_taken, talks_with, turns_with, ordered_with, awaited_with}
 
 answers_spent : (left last : Option (List ℕ)) (taken text : List ℕ) (status : ℕ) (state : SessionState) → Answers state taken text status → IfSome left (λ input. IsFront taken input last) → IfSome last (λ rest. rest ≡ [])
@@ -66,6 +69,14 @@ module _ (first : Now) (editor : EditorState) (before : Waiting) (held : Option 
   few_taken : length goes.taken ≤ limit_number Session
   few_taken = let limit = goes.limit in let room = goes.room in omega (arith, limit, room)
 
+  looks_all : Looks first (take (limit_number Session) all) editor.asked
+  looks_all = looks_within first goes.taken editor.asked more few_taken goes.looks
+
+  spends_all : SpendsFor (take (limit_number Session) all) first.editor.spent editor.spent
+  spends_all =
+      spends_allowed goes.taken more first.editor.spent editor.spent few_taken
+      (record { edits = goes.edits; held = held; behind = before.unread; made = goes.made; few = goes.steps })
+
   few : (wanted : lines.Reading) → IsWithin before more wanted → length all ≤ limit_number Session
   few wanted within =
       let limit = goes.limit in
@@ -79,13 +90,13 @@ module _ (first : Now) (editor : EditorState) (before : Waiting) (held : Option 
 
   pub memory_read : (after : SinkState) (status : ℕ) → later.faults ≡ source.faults → Ends memory_status memory_line out after status → Converses first editor later after status
   memory_read after status e is =
-      ends_memory first editor later all takes_all awaited_all few_all out after goes.text goes.said goes.quiet_out status (quiet e)
+      ends_memory first editor later all takes_all awaited_all few_all looks_all spends_all out after goes.text goes.said goes.quiet_out status (quiet e)
       (if_told first.editor.told Standing (λ state. RepliesFront state all goes.text) (λ state at. replies_with state goes.text at.at goes.taken more few_taken at.talks) goes.stands) is
 
   pub fault_read : (after : SinkState) (status : ℕ) → IsWithin before more unfinished → Rose source.faults later.faults → Ends read_fault_status read_fault_line out after status
       → Converses first editor later after status
   fault_read after status within rose is =
-      ends_take_fault first editor later all takes_all awaited_all few_all out after goes.text goes.said goes.quiet_out status goes.quiet_editor (subst (λ (n : ℕ). Rose n later.faults) goes.quiet_source rose)
+      ends_take_fault first editor later all takes_all awaited_all few_all looks_all spends_all out after goes.text goes.said goes.quiet_out status goes.quiet_editor (subst (λ (n : ℕ). Rose n later.faults) goes.quiet_source rose)
       (if_told first.editor.told Standing (λ state. RepliesAll state all goes.text)
       (λ state at. replies_all state goes.text (with_more more at.at) all (few unfinished within) (talks_with state goes.taken goes.text more here at)
       (turns_with state goes.taken goes.text more here at unfinished within.is)) goes.stands) is
@@ -101,7 +112,7 @@ module _ (first : Now) (editor : EditorState) (before : Waiting) (held : Option 
       let answers : (state : SessionState) → Standing state → (rest : List ℕ) → Answers state (all ++ rest) (goes.text ++ line) file_status =
       λ state at rest. numbered state at (all ++ rest) file_status
       (answers_refused state all goes.text (with_more more at.at) (talks_with state goes.taken goes.text more here at) rest (few malformed within) (turns_with state goes.taken goes.text more here at malformed within.is)) in
-      ends_outcome first editor later all takes_all awaited_all few_all out after goes.text goes.said goes.quiet_out line file_status status (at_line before.number) (quiet e)
+      ends_outcome first editor later all takes_all awaited_all few_all looks_all spends_all out after goes.text goes.said goes.quiet_out line file_status status (at_line before.number) (quiet e)
       (if_told first.editor.told Standing (λ state. Answers state all (goes.text ++ line) file_status) (λ state at. answers_taken all (goes.text ++ line) file_status state (answers state at)) goes.stands)
       (if_told first.editor.told Standing (λ state. IfSome first.source.left (λ input. Answers state input (goes.text ++ line) file_status))
       (λ state at. answers_input first.source.left later.left all (goes.text ++ line) file_status state (answers state at) takes_all.came) goes.stands)
@@ -115,7 +126,7 @@ module _ (first : Now) (editor : EditorState) (before : Waiting) (held : Option 
       let answers : (state : SessionState) → Standing state → Answers state all (goes.text ++ line) file_status =
       λ state at. numbered state at all file_status
       (answers_short state all goes.text (with_more more at.at) (talks_with state goes.taken goes.text more here at) (few unfinished within) (turns_with state goes.taken goes.text more here at unfinished within.is)) in
-      ends_outcome first editor later all takes_all awaited_all few_all out after goes.text goes.said goes.quiet_out line file_status status (at_line before.number) (quiet e)
+      ends_outcome first editor later all takes_all awaited_all few_all looks_all spends_all out after goes.text goes.said goes.quiet_out line file_status status (at_line before.number) (quiet e)
       (if_told first.editor.told Standing (λ state. Answers state all (goes.text ++ line) file_status) answers goes.stands)
       (if_told first.editor.told Standing (λ state. IfSome first.source.left (λ input. Answers state input (goes.text ++ line) file_status))
       (λ state at. answers_spent first.source.left later.left all (goes.text ++ line) file_status state (answers state at) takes_all.came spent) goes.stands)
@@ -135,7 +146,7 @@ module _ (first : Now) (editor : EditorState) (before : Waiting) (held : Option 
       subst (λ (bytes : List ℕ). Answers state bytes (goes.text ++ line) limit_status) (sym (ap (λ (a : List ℕ). a ++ rest) whole ∙ append_assoc front (byte ∷ []) rest))
       (answers_long state front goes.text (with_more beyond.front at.at) (talks_with state goes.taken goes.text beyond.front here at) byte rest full
       (turns_with state goes.taken goes.text beyond.front here at unfinished beyond.is)) in
-      ends_outcome first editor later all takes_all awaited_all few_all out after goes.text goes.said goes.quiet_out line limit_status status at_limit (quiet e)
+      ends_outcome first editor later all takes_all awaited_all few_all looks_all spends_all out after goes.text goes.said goes.quiet_out line limit_status status at_limit (quiet e)
       (if_told first.editor.told Standing (λ state. Answers state all (goes.text ++ line) limit_status) (λ state at. answers_taken all (goes.text ++ line) limit_status state (answers state at)) goes.stands)
       (if_told first.editor.told Standing (λ state. IfSome first.source.left (λ input. Answers state input (goes.text ++ line) limit_status))
       (λ state at. answers_input first.source.left later.left all (goes.text ++ line) limit_status state (answers state at) takes_all.came) goes.stands)
@@ -153,6 +164,10 @@ module _ (first : Now) (editor : EditorState) (before : Waiting) (held : Option 
     said = goes.said;
     stands = if_told first.editor.told Standing (λ state. OrderedAt before.number (order_of order) state all goes.text (now_at editor after held later out))
         (λ state at. ordered_with state goes.taken goes.text more here at (order_of order) after later read.rest read.is read.unread read.number) goes.stands;
+    looks = looks_with first goes.taken editor.asked more goes.looks;
+    edits = goes.edits;
+    made = record { from = before.unread ++ more; made = edits_on goes.taken more goes.edits held before.unread goes.made; rest = read.rest; order_is = read.is; input = read.unread };
+    steps = goes.steps;
     untold = goes.untold;
     quiet_editor = goes.quiet_editor;
     quiet_source = e ∙ goes.quiet_source;

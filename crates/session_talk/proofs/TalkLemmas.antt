@@ -15,16 +15,20 @@ use Rattle.session_spec.specs.declared.Change.{Change}
 use Rattle.session_spec.specs.Conversations.{Answers, turn, makes, holds, shows, stops, map_reply}
 use Rattle.session_spec.specs.SessionLines as lines
 use Rattle.session_spec.specs.SessionLines.{Rest, reads, unfinished, read_line}
+use Rattle.session_spec.specs.SessionLooks.{IsTriedLook}
 use Rattle.session_spec.specs.SessionStates.{SessionState}
+use Rattle.session_spec.specs.SessionSteps.{MakesEdits, SpendsFor}
+use Rattle.session_spec.specs.SessionSteps as spending
 use Rattle.session_spec.specs.TakenInput.{IsFront, Takes, IsNeeded}
 use Rattle.session_spec.specs.Talks.{Standing, begun, behind, turn_of, Talks, still, edits, collects, shows_it}
 use Rattle.session_spec.proofs.Talking.{with_more, talks_on, talks_then, allowed_front}
 use Rattle.session_input.specs.Readers.{Waiting}
 use Rattle.session_input.proofs.ReaderLemmas.{takes_none}
-use Rattle.session_talk.specs.Editors.{EditorState, IsReplied}
-use Rattle.session_talk.specs.Talking.{Now, now_at, StandsAt, OrderedAt, IsAwaitedBy, GoesOn}
+use Rattle.session_talk.specs.Editors.{EditorState, AsksFor, IsReplied}
+use Rattle.session_talk.specs.Talking.{Now, now_at, StandsAt, OrderedAt, IsAwaitedBy, Looks, GoesOn}
 use Rattle.session_talk.specs.Talking.{RepliesFront, RepliesAll, IsLastLine, IsQuiet, Says, outcome, memory, look_fault, take_fault, said, cut_off, Converses}
 use Rattle.session_talk.specs.Talking.{CutOff}
+use Rattle.session_talk.proofs.LookLemmas.{nothing_for}
 
 -- ---- what is told
 
@@ -58,11 +62,12 @@ ends_then first now after text line status result e quiet (ending.output_fault i
 
 -- ---- ends
 
-module _ (first : Now) (editor : EditorState) (source : SourceState) (taken : List ℕ) (takes : Takes first.source taken source) (awaited : IfSome first.editor.told (λ state. IsAwaitedBy state taken)) (few : length taken ≤ limit_number Session + 1) where
+module _ (first : Now) (editor : EditorState) (source : SourceState) (taken : List ℕ) (takes : Takes first.source taken source) (awaited : IfSome first.editor.told (λ state. IsAwaitedBy state taken)) (few : length taken ≤ limit_number Session + 1)
+    (looks : Looks first (take (limit_number Session) taken) editor.asked) (spends : SpendsFor (take (limit_number Session) taken) first.editor.spent editor.spent) where
   module _ (out after : SinkState) (text : List ℕ) (got : out.got ≡ option_map (λ front. front ++ text) first.out.got) (quiet_out : out.faults ≡ first.out.faults) where
     ends_as : (line : List ℕ) (status result : ℕ) → Says first editor source taken status (text ++ line) → Ends status line out after result → Converses first editor source after result
     ends_as line status result says is =
-        record { taken = taken; takes = takes; few = few; awaited = awaited; stops = said status (text ++ line) says (ends_then first.out out after text line status result got quiet_out is) }
+        record { taken = taken; takes = takes; few = few; awaited = awaited; looks = looks; steps = spends; stops = said status (text ++ line) says (ends_then first.out out after text line status result got quiet_out is) }
 
     pub ends_memory : (result : ℕ) → IsQuiet first editor source → IfSome first.editor.told (λ state. RepliesFront state taken text) → Ends memory_status memory_line out after result
         → Converses first editor source after result
@@ -88,6 +93,8 @@ module _ (first : Now) (editor : EditorState) (source : SourceState) (taken : Li
       takes = takes;
       few = few;
       awaited = awaited;
+      looks = looks;
+      steps = spends;
       stops = cut_off (text ++ reply) quiet front cut.is_status (gives_then first.out.got out.got after.got text reply got cut.gives) (subst (λ (n : ℕ). Rose n after.faults) quiet_out cut.rose);
     }
 
@@ -231,15 +238,19 @@ nothing_said : (got : Option (List ℕ)) → got ≡ option_map (λ front. front
 nothing_said None = refl
 nothing_said (Some got) = ap Some (sym (append-nil got))
 
-stands_begun : (told : Option SessionState) (faults : ℕ) (waiting : Waiting) (source : SourceState) (out : SinkState) → waiting.unread ≡ [] → waiting.number ≡ 1
-    → IfSome told (λ state. StandsAt state [] [] (now_at (record { told = told; faults = faults }) waiting None source out))
-stands_begun None faults waiting source out unread number = tt
-stands_begun (Some state) faults waiting source out unread number =
+stands_begun : (told : Option SessionState) (faults : ℕ) (asked : Option (List (List ℕ))) (spent : ℕ) (waiting : Waiting) (source : SourceState) (out : SinkState) → waiting.unread ≡ [] → waiting.number ≡ 1
+    → IfSome told (λ state. StandsAt state [] [] (now_at (record { told = told; faults = faults; asked = asked; spent = spent }) waiting None source out))
+stands_begun None faults asked spent waiting source out unread number = tt
+stands_begun (Some state) faults asked spent waiting source out unread number =
     record { at = begun state []; talks = still (begun state []); told = refl; number = number; held = refl; input = unread }
 
 none_awaited : (told : Option SessionState) → IfSome told (λ state. IsAwaitedBy state [])
 none_awaited None = tt
 none_awaited (Some state) = inl refl
+
+none_looked : (told : Option SessionState) (asked : Option (List (List ℕ))) → IfSome told (λ state. IfSome asked (λ old. AsksFor (IsTriedLook state []) old asked))
+none_looked None asked = tt
+none_looked (Some state) asked = nothing_for (IsTriedLook state []) asked asked refl
 
 pub goes_begun : (editor : EditorState) (waiting : Waiting) (source : SourceState) (out : SinkState) → waiting.unread ≡ [] → waiting.number ≡ 1 → waiting.room ≡ limit_number Session
     → GoesOn (now_at editor waiting None source out) (now_at editor waiting None source out)
@@ -251,7 +262,11 @@ goes_begun editor waiting source out unread number room = record {
   awaited = none_awaited editor.told;
   text = [];
   said = nothing_said out.got;
-  stands = stands_begun editor.told editor.faults waiting source out unread number;
+  stands = stands_begun editor.told editor.faults editor.asked editor.spent waiting source out unread number;
+  looks = none_looked editor.told editor.asked;
+  edits = 0;
+  made = subst (λ (bytes : List ℕ). MakesEdits [] 0 None bytes) (sym unread) spending.begun;
+  steps = omega arith;
   untold = λ e. e;
   quiet_editor = refl;
   quiet_source = refl;

@@ -1,6 +1,6 @@
 -- What a turn comes to.
-use Rattle.std.proofs.Common.{◌∷◌, [], ◌≡◌, ◌≤◌, ◌++◌, ℕ, List, length, Option, Some, None, refl, sym, ◌∙◌, subst, inl, inr, arith}
-use Rattle.std.specs.Prelude.{◌+◌, IfSome}
+use Rattle.std.proofs.Common.{◌∷◌, [], ◌≡◌, ◌≤◌, ◌++◌, ℕ, List, length, Option, Some, None, refl, sym, ap, ◌∙◌, subst, inl, inr, arith, add-mul, one-mul}
+use Rattle.std.specs.Prelude.{◌+◌, ◌*◌, take, IfSome}
 use Rattle.tree_spec.specs.Counts.{Rose}
 use Rattle.tree_spec.specs.Limits.{limit_number}
 use Rattle.tree_spec.specs.States.{SourceState, SinkState}
@@ -9,17 +9,29 @@ use Rattle.generator_spec.specs.Ending.{Ends}
 use Rattle.generator_spec.specs.Lines.{memory_line}
 use Rattle.generator_spec.specs.Statuses.{done_status, file_status, memory_status}
 use Rattle.session_spec.specs.declared.Change.{Change}
-use Rattle.session_spec.specs.Conversations.{Answers, makes, holds, shows, ends, refuses, map_reply, end_reply, bad_line}
+use Rattle.session_spec.specs.Conversations.{Answers, Turn, turn, turn_at, makes, holds, shows, ends, refuses, map_reply, end_reply, bad_line}
 use Rattle.session_spec.specs.SessionLines as lines
-use Rattle.session_spec.specs.SessionLines.{changes, begins, commits, shows_map, ends_session}
+use Rattle.session_spec.specs.SessionLines.{Rest, reads, changes, begins, commits, shows_map, ends_session}
 use Rattle.session_input.specs.Readers.{Waiting}
+use Rattle.session_spec.specs.SessionLooks.{IsTriedLook}
 use Rattle.session_spec.specs.SessionStates.{SessionState}
+use Rattle.session_spec.specs.SessionSteps.{MakesEdits, SpendsFor, most_steps}
+use Rattle.session_spec.specs.SessionSteps as spending
 use Rattle.session_spec.specs.Talks.{turn_of}
+use Rattle.session_spec.proofs.SessionSpending.{spends_here}
 use Rattle.session_spec.proofs.Standings.{answers_ended, answers_refused}
-use Rattle.session_talk.specs.Editors.{EditorState, IsReplied}
-use Rattle.session_talk.specs.Talking.{Now, now_at, StandsAt, OrderedAt, GoesOn, IsOrdered}
+use Rattle.session_talk.specs.Editors.{EditorState, AsksFor, EditsLook, IsReplied}
+use Rattle.session_talk.specs.Talking.{Now, now_at, StandsAt, OrderedAt, Looks, GoesOn, IsOrdered}
 use Rattle.session_talk.specs.Talking.{RepliesFront, IsLastLine, at_end, at_line, IsQuiet, Converses, GivesReply, TellsEnd, Makes, replied, fails, wants, ShowsMap, shown, lost, Turns}
-use Rattle.session_talk.proofs.TalkLemmas.{if_told, give_then, replies_front, ends_memory, ends_look_fault, ends_outcome, ends_cut_off, answers_input, answers_taken, stands_made, stands_shown, stands_collected, held_turn}
+use Rattle.session_talk.proofs.LookLemmas.{looks_here, looks_then}
+use Rattle.session_talk.proofs.TalkLemmas.{if_told, two_told, give_then, replies_front, ends_memory, ends_look_fault, ends_outcome, ends_cut_off, answers_input, answers_taken, stands_made, stands_shown, stands_collected, held_turn}
+
+sum_more : (spent now after some more all : ℕ) → all ≡ some + more → now ≤ spent + some → after ≤ now + more → after ≤ spent + all
+sum_more spent now after some more all e one other = omega (arith, e, one, other)
+
+one_more : (spent now after edits most : ℕ) → now ≤ spent + edits * most → after ≤ now + most → after ≤ spent + (edits + 1) * most
+one_more spent now after edits most one other =
+    sum_more spent now after (edits * most) most ((edits + 1) * most) (add-mul edits 1 most ∙ ap (λ (n : ℕ). edits * most + n) (one-mul most)) one other
 
 module _ (first now : Now) (number : ℕ) (order : lines.Order) (goes : IsOrdered number order first now) where
   abbrev Ordering : SessionState → Type 0
@@ -31,6 +43,39 @@ module _ (first now : Now) (number : ℕ) (order : lines.Order) (goes : IsOrdere
   few_taken : length goes.taken ≤ limit_number Session + 1
   few_taken = let fewer = few in omega (arith, fewer)
 
+  looks_here_now : Looks first (take (limit_number Session) goes.taken) now.editor.asked
+  looks_here_now = looks_here first goes.taken now.editor.asked few goes.looks
+
+  spends_as : (editor : EditorState) (count : ℕ) (held : Option (List Change)) (behind : List ℕ) → MakesEdits goes.taken count held behind → editor.spent ≤ first.editor.spent + count * most_steps
+      → SpendsFor (take (limit_number Session) goes.taken) first.editor.spent editor.spent
+  spends_as editor count held behind made steps =
+      spends_here goes.taken first.editor.spent editor.spent few (record { edits = count; held = held; behind = behind; made = made; few = steps })
+
+  spends_now : SpendsFor (take (limit_number Session) goes.taken) first.editor.spent now.editor.spent
+  spends_now = spends_as now.editor goes.edits now.held goes.made.from goes.made.made goes.steps
+
+  turn_here : (wanted : Turn) → turn now.held (reads order goes.made.rest) ≡ wanted → turn_at now.held goes.made.from ≡ wanted
+  turn_here wanted e = ap (turn now.held) goes.made.order_is ∙ e
+
+  does_at : (wanted : Rest → Turn) → ((rest : Rest) → turn now.held (reads order rest) ≡ wanted rest) → (state : SessionState) (is : Ordering state) → turn_of is.at ≡ wanted is.rest
+  does_at wanted does state is = held_turn state goes.taken goes.text number order now is ∙ does is.rest
+
+  made_edit : (edit : List Change) → ((rest : Rest) → turn now.held (reads order rest) ≡ makes edit rest) → MakesEdits goes.taken (goes.edits + 1) None now.waiting.unread
+  made_edit edit does =
+      subst (λ (bytes : List ℕ). MakesEdits goes.taken (goes.edits + 1) None bytes) (sym goes.made.input)
+      (spending.edits goes.edits now.held goes.made.from edit goes.made.rest goes.made.made (turn_here (makes edit goes.made.rest) (does goes.made.rest)))
+
+  spends_edit : (edit : List Change) → ((rest : Rest) → turn now.held (reads order rest) ≡ makes edit rest) → (editor : EditorState) → editor.spent ≤ now.editor.spent + most_steps
+      → SpendsFor (take (limit_number Session) goes.taken) first.editor.spent editor.spent
+  spends_edit edit does editor steps =
+      spends_as editor (goes.edits + 1) None now.waiting.unread (made_edit edit does) (one_more first.editor.spent now.editor.spent editor.spent goes.edits most_steps goes.steps steps)
+
+  looks_made : (edit : List Change) → ((state : SessionState) (is : Ordering state) → turn_of is.at ≡ makes edit is.rest) → (editor : EditorState) → EditsLook now.editor edit editor → Looks first goes.taken editor.asked
+  looks_made edit does editor edits =
+      two_told first.editor.told Ordering (λ state. IfSome first.editor.asked (λ old. AsksFor (IsTriedLook state goes.taken) old now.editor.asked))
+      (λ state. IfSome first.editor.asked (λ old. AsksFor (IsTriedLook state goes.taken) old editor.asked))
+      (λ state at looks. looks_then state goes.taken goes.text number order now at edit (does state at) first.editor.asked editor edits looks) goes.stands goes.looks
+
   quiet : IsQuiet first now.editor now.source
   quiet = record { editor_is = goes.quiet_editor; source_is = goes.quiet_source }
 
@@ -38,13 +83,13 @@ module _ (first now : Now) (number : ℕ) (order : lines.Order) (goes : IsOrdere
   front_told = if_told first.editor.told Ordering (λ state. RepliesFront state goes.taken goes.text) (λ state is. replies_front state goes.text is.at goes.taken few is.talks) goes.stands
 
   pub memory_turns : (after : SinkState) (status : ℕ) → Ends memory_status memory_line now.out after status → Converses first now.editor now.source after status
-  memory_turns after status is = ends_memory first now.editor now.source goes.taken goes.takes goes.awaited few_taken now.out after goes.text goes.said goes.quiet_out status quiet front_told is
+  memory_turns after status is = ends_memory first now.editor now.source goes.taken goes.takes goes.awaited few_taken looks_here_now spends_now now.out after goes.text goes.said goes.quiet_out status quiet front_told is
 
   -- a line that ends the session, whatever comes behind it
   ended_by : (line : List ℕ) (status result : ℕ) (after : SinkState) → IsLastLine status line → ((state : SessionState) → Ordering state → (more : List ℕ) → Answers state (goes.taken ++ more) (goes.text ++ line) status)
       → Ends status line now.out after result → Converses first now.editor now.source after result
   ended_by line status result after last answers is =
-      ends_outcome first now.editor now.source goes.taken goes.takes goes.awaited few_taken now.out after goes.text goes.said goes.quiet_out line status result last quiet
+      ends_outcome first now.editor now.source goes.taken goes.takes goes.awaited few_taken looks_here_now spends_now now.out after goes.text goes.said goes.quiet_out line status result last quiet
       (if_told first.editor.told Ordering (λ state. Answers state goes.taken (goes.text ++ line) status) (λ state at. answers_taken goes.taken (goes.text ++ line) status state (answers state at)) goes.stands)
       (if_told first.editor.told Ordering (λ state. IfSome first.source.left (λ input. Answers state input (goes.text ++ line) status))
       (λ state at. answers_input first.source.left now.source.left goes.taken (goes.text ++ line) status state (answers state at) goes.takes.came) goes.stands)
@@ -63,7 +108,7 @@ module _ (first now : Now) (number : ℕ) (order : lines.Order) (goes : IsOrdere
   end_turns does after status is =
       ended_by end_reply done_status status after at_end (λ state at more. answers_ended state goes.taken goes.text at.at at.talks more few (does state at)) is
 
-  pub collect_turns : (held : List Change) → ((state : SessionState) (is : Ordering state) → turn_of is.at ≡ holds held is.rest) → GoesOn first (now_at now.editor now.waiting (Some held) now.source now.out)
+  pub collect_turns : (held : List Change) → ((rest : Rest) → turn now.held (reads order rest) ≡ holds held rest) → GoesOn first (now_at now.editor now.waiting (Some held) now.source now.out)
   collect_turns held does = record {
     taken = goes.taken;
     takes = goes.takes;
@@ -73,7 +118,12 @@ module _ (first now : Now) (number : ℕ) (order : lines.Order) (goes : IsOrdere
     text = goes.text;
     said = goes.said;
     stands = if_told first.editor.told Ordering (λ state. StandsAt state goes.taken goes.text (now_at now.editor now.waiting (Some held) now.source now.out))
-        (λ state at. stands_collected state goes.taken goes.text number order now at now.editor now.out held (does state at) refl) goes.stands;
+        (λ state at. stands_collected state goes.taken goes.text number order now at now.editor now.out held (does_at (holds held) does state at) refl) goes.stands;
+    looks = goes.looks;
+    edits = goes.edits;
+    made = subst (λ (bytes : List ℕ). MakesEdits goes.taken goes.edits (Some held) bytes) (sym goes.made.input)
+        (spending.collects goes.edits now.held goes.made.from held goes.made.rest goes.made.made (turn_here (holds held goes.made.rest) (does goes.made.rest)));
+    steps = goes.steps;
     untold = goes.untold;
     quiet_editor = goes.quiet_editor;
     quiet_source = goes.quiet_source;
@@ -82,7 +132,8 @@ module _ (first now : Now) (number : ℕ) (order : lines.Order) (goes : IsOrdere
 
   -- ---- a reply, and then it goes on
 
-  module _ (editor : EditorState) (out : SinkState) (line : List ℕ) (told : first.editor.told ≡ None → editor.told ≡ None) (calm : editor.faults ≡ now.editor.faults)
+  module _ (editor : EditorState) (out : SinkState) (line : List ℕ) (told : first.editor.told ≡ None → editor.told ≡ None) (calm : editor.faults ≡ now.editor.faults) (looked : Looks first goes.taken editor.asked)
+      (count : ℕ) (made : MakesEdits goes.taken count None now.waiting.unread) (spent : editor.spent ≤ first.editor.spent + count * most_steps)
       (standing : (state : SessionState) → Ordering state → StandsAt state goes.taken (goes.text ++ line) (now_at editor now.waiting None now.source out)) where
     replied_turns : (result : Option ℕ) → GivesReply line now.out out result → Turns first editor now.waiting None now.source out result
     replied_turns None gave = record {
@@ -94,39 +145,48 @@ module _ (first now : Now) (number : ℕ) (order : lines.Order) (goes : IsOrdere
       text = goes.text ++ line;
       said = give_then first.out.got now.out.got out.got goes.text line goes.said gave.got;
       stands = if_told first.editor.told Ordering (λ state. StandsAt state goes.taken (goes.text ++ line) (now_at editor now.waiting None now.source out)) standing goes.stands;
+      looks = looked;
+      edits = count;
+      made = made;
+      steps = spent;
       untold = told;
       quiet_editor = calm ∙ goes.quiet_editor;
       quiet_source = goes.quiet_source;
       quiet_out = gave.quiet ∙ goes.quiet_out;
     }
     replied_turns (Some status) cut =
-        ends_cut_off first editor now.source goes.taken goes.takes goes.awaited few_taken now.out out goes.text goes.said goes.quiet_out line status
+        ends_cut_off first editor now.source goes.taken goes.takes goes.awaited few_taken (looks_here first goes.taken editor.asked few looked) (spends_as editor count None now.waiting.unread made spent) now.out out goes.text goes.said goes.quiet_out line status
         (record { editor_is = calm ∙ goes.quiet_editor; source_is = goes.quiet_source })
         (if_told first.editor.told Ordering (λ state. RepliesFront state goes.taken (goes.text ++ line))
         (λ state at. let then = standing state at in replies_front state (goes.text ++ line) then.at goes.taken few then.talks) goes.stands)
         cut
 
-  pub make_turns : (edit : List Change) → ((state : SessionState) (is : Ordering state) → turn_of is.at ≡ makes edit is.rest) → (editor : EditorState) (out : SinkState) (result : Option ℕ)
+  pub make_turns : (edit : List Change) → ((rest : Rest) → turn now.held (reads order rest) ≡ makes edit rest) → (editor : EditorState) (out : SinkState) (result : Option ℕ)
       → Makes now.editor edit now.out editor out result → Turns first editor now.waiting None now.source out result
-  make_turns edit does editor out result (replied line edits gives) =
-      replied_turns editor out line (λ e. edits.untold (goes.untold e)) edits.quiet
-      (λ state at. stands_made state goes.taken goes.text number order now at editor out edit line (does state at)
+  make_turns edit does editor out result (replied line edits looks steps gives) =
+      replied_turns editor out line (λ e. edits.untold (goes.untold e)) edits.quiet (looks_made edit (does_at (makes edit) does) editor looks) (goes.edits + 1) (made_edit edit does) (one_more first.editor.spent now.editor.spent editor.spent goes.edits most_steps goes.steps steps)
+      (λ state at. stands_made state goes.taken goes.text number order now at editor out edit line (does_at (makes edit) does state at)
       (subst (λ (t : Option SessionState). IfSome t (λ s. IsReplied s edit line editor.told)) at.told edits.replied))
       result gives
-  make_turns edit does editor out result (fails status e rose is) =
+  make_turns edit does editor out result (fails status e rose looks steps is) =
       subst (λ (r : Option ℕ). Turns first editor now.waiting None now.source out r) (sym e)
-      (ends_look_fault first editor now.source goes.taken goes.takes goes.awaited few_taken now.out out goes.text goes.said goes.quiet_out status
+      (ends_look_fault first editor now.source goes.taken goes.takes goes.awaited few_taken (looks_here first goes.taken editor.asked few (looks_made edit (does_at (makes edit) does) editor looks)) (spends_edit edit does editor steps) now.out out goes.text goes.said goes.quiet_out status
       (subst (λ (n : ℕ). Rose n editor.faults) goes.quiet_editor rose) goes.quiet_source front_told is)
-  make_turns edit does editor out result (wants status e calm is) =
+  make_turns edit does editor out result (wants status e calm looks steps is) =
       subst (λ (r : Option ℕ). Turns first editor now.waiting None now.source out r) (sym e)
-      (ends_memory first editor now.source goes.taken goes.takes goes.awaited few_taken now.out out goes.text goes.said goes.quiet_out status
+      (ends_memory first editor now.source goes.taken goes.takes goes.awaited few_taken (looks_here first goes.taken editor.asked few (looks_made edit (does_at (makes edit) does) editor looks)) (spends_edit edit does editor steps) now.out out goes.text goes.said goes.quiet_out status
       (record { editor_is = calm ∙ goes.quiet_editor; source_is = goes.quiet_source }) front_told is)
 
-  pub show_turns : ((state : SessionState) (is : Ordering state) → turn_of is.at ≡ shows is.rest) → (out : SinkState) (result : Option ℕ) → ShowsMap now.editor now.out out result
+  made_shown : ((rest : Rest) → turn now.held (reads order rest) ≡ shows rest) → MakesEdits goes.taken goes.edits None now.waiting.unread
+  made_shown does =
+      subst (λ (bytes : List ℕ). MakesEdits goes.taken goes.edits None bytes) (sym goes.made.input)
+      (spending.shows_it goes.edits now.held goes.made.from goes.made.rest goes.made.made (turn_here (shows goes.made.rest) (does goes.made.rest)))
+
+  pub show_turns : ((rest : Rest) → turn now.held (reads order rest) ≡ shows rest) → (out : SinkState) (result : Option ℕ) → ShowsMap now.editor now.out out result
       → Turns first now.editor now.waiting None now.source out result
   show_turns does out result (shown map is gives) =
-      replied_turns now.editor out (map_reply map) goes.untold refl
-      (λ state at. stands_shown state goes.taken goes.text number order now at now.editor out map (does state at)
+      replied_turns now.editor out (map_reply map) goes.untold refl goes.looks goes.edits (made_shown does) goes.steps
+      (λ state at. stands_shown state goes.taken goes.text number order now at now.editor out map (does_at shows does state at)
       (subst (λ (t : Option SessionState). IfSome t (λ s. map ≡ s.map)) at.told is) refl)
       result gives
   show_turns does out result (lost status e is) =
@@ -139,12 +199,12 @@ module _ (first : Now) (number : ℕ) (editor : EditorState) (waiting : Waiting)
       → Turns first later waiting None source after result
   alone_change change later after result goes made =
       make_turns first (now_at editor waiting None source out) number (changes change) goes (change ∷ [])
-      (λ state is. held_turn state goes.taken goes.text number (changes change) (now_at editor waiting None source out) is) later after result made
+      (λ rest. refl) later after result made
 
   pub alone_begin : IsOrdered number begins first (now_at editor waiting None source out) → GoesOn first (now_at editor waiting (Some []) source out)
   alone_begin goes =
       collect_turns first (now_at editor waiting None source out) number begins goes []
-      (λ state is. held_turn state goes.taken goes.text number begins (now_at editor waiting None source out) is)
+      (λ rest. refl)
 
   pub alone_commit : (after : SinkState) (status : ℕ) → IsOrdered number commits first (now_at editor waiting None source out) → TellsEnd file_status (bad_line number) out after status → Converses first editor source after status
   alone_commit after status goes is =
@@ -154,7 +214,7 @@ module _ (first : Now) (number : ℕ) (editor : EditorState) (waiting : Waiting)
   pub alone_map : (after : SinkState) (result : Option ℕ) → IsOrdered number shows_map first (now_at editor waiting None source out) → ShowsMap editor out after result → Turns first editor waiting None source after result
   alone_map after result goes is =
       show_turns first (now_at editor waiting None source out) number shows_map goes
-      (λ state at. held_turn state goes.taken goes.text number shows_map (now_at editor waiting None source out) at) after result is
+      (λ rest. refl) after result is
 
   pub alone_end : (after : SinkState) (status : ℕ) → IsOrdered number ends_session first (now_at editor waiting None source out) → Ends done_status end_reply out after status → Converses first editor source after status
   alone_end after status goes is =
@@ -165,13 +225,13 @@ module _ (first : Now) (number : ℕ) (editor : EditorState) (waiting : Waiting)
     pub within_change : (change : Change) → IsOrdered number (changes change) first (now_at editor waiting (Some held) source out) → GoesOn first (now_at editor waiting (Some (held ++ change ∷ [])) source out)
     within_change change goes =
         collect_turns first (now_at editor waiting (Some held) source out) number (changes change) goes (held ++ change ∷ [])
-        (λ state is. held_turn state goes.taken goes.text number (changes change) (now_at editor waiting (Some held) source out) is)
+        (λ rest. refl)
 
     pub within_commit : (later : EditorState) (after : SinkState) (result : Option ℕ) → IsOrdered number commits first (now_at editor waiting (Some held) source out) → Makes editor held out later after result
         → Turns first later waiting None source after result
     within_commit later after result goes made =
         make_turns first (now_at editor waiting (Some held) source out) number commits goes held
-        (λ state is. held_turn state goes.taken goes.text number commits (now_at editor waiting (Some held) source out) is) later after result made
+        (λ rest. refl) later after result made
 
     pub within_begin : (after : SinkState) (status : ℕ) → IsOrdered number begins first (now_at editor waiting (Some held) source out) → TellsEnd file_status (bad_line number) out after status → Converses first editor source after status
     within_begin after status goes is =

@@ -1,7 +1,7 @@
 -- What edits ask of a folder. own: no public standard speaks of it.
 --     LookState                       what the folder tells, of which paths it is kept what stands there, and which
 --                                     references lead there
---     AsksNew old before after        the folder was asked for no path of which that was kept, and for none twice
+--     AsksUnkept old before after     the folder was asked for no path of which that was kept, and for none twice
 --     AsksAndKeeps old before after   the same, and of each of them it is kept then
 --     OnlyAsks Asks before after      the tree stays, nothing is written, and the folder is asked so
 --     AsksSome before after           what calls ask that may have ended with a fault
@@ -19,14 +19,14 @@ pub record LookState : Type 0 where
   pub kept : List ℕ → Bool
   pub references : List ℕ
 
-pub record AsksNew (old : List (List ℕ)) (before after : LookState) : Type 0 where
+pub record AsksUnkept (old : List (List ℕ)) (before after : LookState) : Type 0 where
   pub more : List (List ℕ)
   pub asked : after.folder.asked ≡ Some (old ++ more)
   pub once : IsDistinct bytes_eq more
   pub new : All (λ path. before.kept path ≡ false) more
 
 pub record AsksAndKeeps (old : List (List ℕ)) (before after : LookState) : Type 0 where
-  pub asks : AsksNew old before after
+  pub asks : AsksUnkept old before after
   pub held : All (λ path. after.kept path ≡ true) asks.more
 
 pub record OnlyAsks (Asks : List (List ℕ) → Type 0) (before after : LookState) : Type 0 where
@@ -37,7 +37,7 @@ pub record OnlyAsks (Asks : List (List ℕ) → Type 0) (before after : LookStat
   pub asked : IfSome before.folder.asked Asks
 
 abbrev pub AsksSome : LookState → LookState → Type 0
-AsksSome before after = OnlyAsks (λ old. AsksNew old before after) before after
+AsksSome before after = OnlyAsks (λ old. AsksUnkept old before after) before after
 
 pub record AsksKeeping (before after : LookState) : Type 0 where
   pub asks : OnlyAsks (λ old. AsksAndKeeps old before after) before after

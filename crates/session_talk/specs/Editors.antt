@@ -1,21 +1,38 @@
 -- Who makes the edits of a session.
---     EditorState                     the session's state, where it is told, and how many looks failed
+--     EditorState                     the session's state, where it is told, how many looks failed, for which paths the
+--                                     folder was asked, where it tells that, and how many steps were taken
+--     AsksFor Among old asked         it was asked for further paths, for such alone
+--     EditsLook before edit after     for paths alone at which the edit looks
 --     Seen Is P                       of a state that it is, this
 --     IsReplied state edit line told  the line is the reply, and what is told then is the next state
+--     Comes before edit result after  what comes of an edit
 --     Edits before edit result after  an edit is made, and its reply given
 --     EditsFrom Before edit result After      the same from each state that it is to one that it is then
 --     Shows state map                 the map is the state's
-use Rattle.std.specs.Prelude.{◌≡◌, ℕ, List, Option, Some, None, Result, Ok, Err, IfSome}
+use Rattle.std.specs.Prelude.{◌≡◌, ◌≤◌, ◌+◌, ◌++◌, ℕ, List, Option, Some, None, Result, Ok, Err, IfSome, All}
 use Rattle.tree_spec.specs.Counts.{Rose}
 use Rattle.session_spec.specs.declared.Change.{Change}
+use Rattle.session_spec.specs.EditLooks.{IsEditLook}
 use Rattle.session_spec.specs.Replies.{Replies}
 use Rattle.session_spec.specs.SessionStates.{SessionState}
+use Rattle.session_spec.specs.SessionSteps.{most_steps}
 use Rattle.session_talk.specs.declared.editor.EditorFault.{EditorFault}
 use Rattle.session_talk.specs.declared.editor.EditorFault.TheVariants.{ReadFault, Memory}
 
 pub record EditorState : Type 0 where
   pub told : Option SessionState
   pub faults : ℕ
+  pub asked : Option (List (List ℕ))
+  pub spent : ℕ
+
+pub record AsksFor (Among : List ℕ → Type 0) (old : List (List ℕ)) (asked : Option (List (List ℕ))) : Type 0 where
+  pub more : List (List ℕ)
+  pub is : asked ≡ Some (old ++ more)
+  pub among : All Among more
+
+abbrev pub EditsLook : EditorState → List Change → EditorState → Type 0
+EditsLook before edit after =
+    IfSome before.told (λ state. IfSome before.asked (λ old. AsksFor (IsEditLook state edit) old after.asked))
 
 -- own: a session is told by a tree behind it, of which there may be several
 pub record Seen (Is P : EditorState → Type 0) : Type 0 where
@@ -34,10 +51,16 @@ pub record EditsTold (before : EditorState) (edit : List Change) (line : List �
   pub untold : before.told ≡ None → after.told ≡ None
   pub quiet : after.faults ≡ before.faults
 
-abbrev pub Edits : EditorState → List Change → Result (List ℕ) EditorFault → EditorState → Type 0
-Edits before edit (Ok line) after = EditsTold before edit line after
-Edits before edit (Err ReadFault) after = Rose before.faults after.faults
-Edits before edit (Err Memory) after = after.faults ≡ before.faults
+abbrev pub Comes : EditorState → List Change → Result (List ℕ) EditorFault → EditorState → Type 0
+Comes before edit (Ok line) after = EditsTold before edit line after
+Comes before edit (Err ReadFault) after = Rose before.faults after.faults
+Comes before edit (Err Memory) after = after.faults ≡ before.faults
+
+pub record Edits (before : EditorState) (edit : List Change) (result : Result (List ℕ) EditorFault)
+    (after : EditorState) : Type 0 where
+  pub comes : Comes before edit result after
+  pub looks : EditsLook before edit after
+  pub steps : after.spent ≤ before.spent + most_steps
 
 abbrev pub EditsFrom :
     (EditorState → Type 0) → List Change → Result (List ℕ) EditorFault → (EditorState → Type 0) → Type 0

@@ -2,9 +2,13 @@
 --     Now                             all that a turn changes: who edits, what waits, the changes since a `begin`, the
 --                                     source and the sink
 --     StandsAt state taken text now   of these bytes all that doesn't wait is read, and this text is replied
---     IsAwaitedBy state taken         the last of these bytes were taken, all at once, where what came before them
---                                     didn't end the session
---     Goes Stands first now           so far nothing failed, and it stands so
+--     IsAwaitedBy state taken         but for the last of these bytes, as many as a take may ask for, they don't end
+--                                     the session
+--     Looks first input asked         the folder was asked for paths alone at which edits look to which this input
+--                                     comes
+--     MadeAt taken edits now          the lines of these bytes that don't wait make so many edits
+--     MadeBefore order taken edits now        so, but the last line that is read isn't obeyed yet
+--     Goes Stands Made first now      so far nothing failed, and it stands so; so many edits were made
 --     OrderedAt number order state taken text now      so, but the last line that is read isn't obeyed yet
 --     GoesOn first now, IsOrdered number order first now      so far nothing failed, and it stands in one of both ways
 --     RepliesFront state taken text   the text is replies to lines of these bytes, as far as the limit allows
@@ -19,7 +23,7 @@
 --     Makes before edit out after out_after result   an edit is made and replied to, or something failed
 --     ShowsMap editor out after result               the map is the reply
 --     Turns first editor waiting held source out result      behind a turn it goes on, or the session ends
-use Rattle.std.specs.Prelude.{◌≡◌, ◌≤◌, ◌⊎◌, ◌+◌, ◌++◌, [], ℕ, List, length, take}
+use Rattle.std.specs.Prelude.{◌≡◌, ◌≤◌, ◌⊎◌, ◌+◌, ◌*◌, ◌++◌, [], ℕ, List, length, take}
 use Rattle.std.specs.Prelude.{Option, Some, None, IfSome, option_map}
 use Rattle.tree_spec.specs.Counts.{Rose}
 use Rattle.tree_spec.specs.Limits.{limit_number}
@@ -32,11 +36,13 @@ use Rattle.generator_spec.specs.Statuses.{memory_status, read_fault_status, writ
 use Rattle.session_spec.specs.declared.Change.{Change}
 use Rattle.session_spec.specs.Conversations.{Answers, stops, map_reply, end_reply, bad_line}
 use Rattle.session_spec.specs.SessionLines.{Order, Rest, reads, read_line}
+use Rattle.session_spec.specs.SessionLooks.{IsTriedLook}
 use Rattle.session_spec.specs.SessionStates.{SessionState}
+use Rattle.session_spec.specs.SessionSteps.{MakesEdits, SpendsFor, most_steps}
 use Rattle.session_spec.specs.TakenInput.{Takes, taken_at_once}
 use Rattle.session_spec.specs.Talks.{Standing, begun, turn_of, Talks}
 use Rattle.session_input.specs.Readers.{Waiting}
-use Rattle.session_talk.specs.Editors.{EditorState, EditsTold, Shows}
+use Rattle.session_talk.specs.Editors.{EditorState, AsksFor, EditsTold, EditsLook, Shows}
 
 pub record Now : Type 0 where
   pub editor : EditorState
@@ -85,7 +91,22 @@ pub record StandsBeforeLastOf (state : SessionState) (taken : List ℕ) : Type 0
 abbrev pub IsAwaitedBy : SessionState → List ℕ → Type 0
 IsAwaitedBy state taken = (taken ≡ []) ⊎ StandsBeforeLastOf state taken
 
-pub record Goes (Stands : SessionState → List ℕ → List ℕ → Type 0) (first now : Now) : Type 0 where
+abbrev pub Looks : Now → List ℕ → Option (List (List ℕ)) → Type 0
+Looks first input asked =
+    IfSome first.editor.told (λ state. IfSome first.editor.asked (λ old. AsksFor (IsTriedLook state input) old asked))
+
+abbrev pub MadeAt : List ℕ → ℕ → Now → Type 0
+MadeAt taken edits now = MakesEdits taken edits now.held now.waiting.unread
+
+pub record MadeBefore (order : Order) (taken : List ℕ) (edits : ℕ) (now : Now) : Type 0 where
+  pub from : List ℕ
+  pub made : MakesEdits taken edits now.held from
+  pub rest : Rest
+  pub order_is : read_line from ≡ reads order rest
+  pub input : now.waiting.unread ≡ rest.behind
+
+pub record Goes (Stands : SessionState → List ℕ → List ℕ → Type 0) (Made : List ℕ → ℕ → Type 0) (first now : Now)
+    : Type 0 where
   pub taken : List ℕ
   pub takes : Takes first.source taken now.source
   pub limit : first.waiting.room ≡ limit_number Session
@@ -94,16 +115,23 @@ pub record Goes (Stands : SessionState → List ℕ → List ℕ → Type 0) (fi
   pub text : List ℕ
   pub said : now.out.got ≡ option_map (λ front. front ++ text) first.out.got
   pub stands : IfSome first.editor.told (λ state. Stands state taken text)
+  pub looks : Looks first taken now.editor.asked
+  pub edits : ℕ
+  pub made : Made taken edits
+  pub steps : now.editor.spent ≤ first.editor.spent + edits * most_steps
   pub untold : first.editor.told ≡ None → now.editor.told ≡ None
   pub quiet_editor : now.editor.faults ≡ first.editor.faults
   pub quiet_source : now.source.faults ≡ first.source.faults
   pub quiet_out : now.out.faults ≡ first.out.faults
 
 abbrev pub GoesOn : Now → Now → Type 0
-GoesOn first now = Goes (λ state taken text. StandsAt state taken text now) first now
+GoesOn first now =
+    Goes (λ state taken text. StandsAt state taken text now) (λ taken edits. MadeAt taken edits now) first now
 
 abbrev pub IsOrdered : ℕ → Order → Now → Now → Type 0
-IsOrdered number order first now = Goes (λ state taken text. OrderedAt number order state taken text now) first now
+IsOrdered number order first now =
+    Goes (λ state taken text. OrderedAt number order state taken text now)
+    (λ taken edits. MadeBefore order taken edits now) first now
 
 -- ---- ends
 
@@ -169,6 +197,8 @@ pub record Converses (first : Now) (editor : EditorState) (source : SourceState)
   pub takes : Takes first.source taken source
   pub few : length taken ≤ limit_number Session + 1
   pub awaited : IfSome first.editor.told (λ state. IsAwaitedBy state taken)
+  pub looks : Looks first (take (limit_number Session) taken) editor.asked
+  pub steps : SpendsFor (take (limit_number Session) taken) first.editor.spent editor.spent
   pub stops : Stops first editor source out taken result
 
 -- ---- what a turn gives out
@@ -193,14 +223,17 @@ TellsEnd status line out after result =
 pub data Makes (before : EditorState) (edit : List Change) (out : SinkState) (after : EditorState)
     (out_after : SinkState) (result : Option ℕ) : Type 0 where
   replied :
-      (line : List ℕ) → EditsTold before edit line after → GivesReply line out out_after result
+      (line : List ℕ) → EditsTold before edit line after → EditsLook before edit after
+      → after.spent ≤ before.spent + most_steps → GivesReply line out out_after result
       → Makes before edit out after out_after result
   fails :
-      (status : ℕ) → result ≡ Some status → Rose before.faults after.faults
-      → Ends read_fault_status read_fault_line out out_after status → Makes before edit out after out_after result
+      (status : ℕ) → result ≡ Some status → Rose before.faults after.faults → EditsLook before edit after
+      → after.spent ≤ before.spent + most_steps → Ends read_fault_status read_fault_line out out_after status
+      → Makes before edit out after out_after result
   wants :
-      (status : ℕ) → result ≡ Some status → after.faults ≡ before.faults
-      → Ends memory_status memory_line out out_after status → Makes before edit out after out_after result
+      (status : ℕ) → result ≡ Some status → after.faults ≡ before.faults → EditsLook before edit after
+      → after.spent ≤ before.spent + most_steps → Ends memory_status memory_line out out_after status
+      → Makes before edit out after out_after result
 
 pub data ShowsMap (editor : EditorState) (out after : SinkState) (result : Option ℕ) : Type 0 where
   shown :

@@ -22,7 +22,7 @@ use std::alloc::Global;
 use tree_model::{Sink, Source};
 
 /// Replies to the lines of an input, one after another, until one of them ends the session or something fails. Answers
-/// the exit status. A reply goes out before more is taken than what came with its line.
+/// the exit status. A reply goes out before more is taken than what came with its line; the contract doesn't say so.
 pub fn converse<E: Editor, I: Source, O: Sink>(
     alloc: Global,
     editor: &mut E,

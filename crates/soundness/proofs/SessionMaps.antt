@@ -1,7 +1,7 @@
 -- The maps of a session serve wherever it stands.
 use Rattle.std.proofs.Common.{ℕ, List}
 use Rattle.session_spec.proofs.Talking.{talks_stay_current}
-use Rattle.session_spec.specs.SessionRuns.{opens}
+use Rattle.session_spec.specs.Openings.{opens}
 use Rattle.session_spec.specs.SessionStates.{SessionState}
 use Rattle.session_spec.specs.Talks.{begun}
 use Rattle.soundness.proofs.Smallest.{generated_is_smallest}

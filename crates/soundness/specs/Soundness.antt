@@ -144,4 +144,4 @@ OneMapInPage =
 -- own law: wherever a session stands that is opened on a tree, whatever edits led there, its map is generated for the
 -- tree and the config of its state, serves, has the digests of the modules, and is smallest
 abbrev pub SessionMapsServe : Type 0
-SessionMapsServe = (tree : Tree) (input : List ℕ) → sessions.MapsServe tree input
+SessionMapsServe = (tree : Tree) (input : List ℕ) → sessions.StatesServe tree input

@@ -150,5 +150,5 @@ returns-in-Err-clause-ends g c =
           unspent = λ none no_measure. refl;
         };
       };
-      session = unread_ends words folder (g.I.Source.state c.args.input.now) _ _ _ c.in-Err.fault c.in-Err.ensures c.misworded.ensures.tells c.misworded.ensures.later;
+      session = unread_ends words folder (g.I.Source.state c.args.input.now) _ _ _ _ c.in-Err.fault c.in-Err.ensures c.misworded.ensures.tells c.misworded.ensures.later;
     }

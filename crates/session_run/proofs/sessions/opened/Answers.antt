@@ -6,13 +6,13 @@ use Rattle.session_run.proofs.sessions.opened.Goals as goal
 pub returns-in-Err-give-clause-ends : goal.returns-in-Err-give-clause-ends
 returns-in-Err-give-clause-ends g c =
     opened_cut c.args.session (g.F.Folder.state c.args.folder.now) (g.I.Source.state c.args.input.now) (g.O.Sink.state c.args.out.now)
-    c.as_slice.result.now (c.as_slice.ensures.value ∙ c.in-Ok.ensures ∙ ap accepted_line c.counts-counts.ensures)
+    c.as_slice.result.now (c.as_slice.ensures.value ∙ c.in-Ok.ensures ∙ ap accepted_line c.counts-counts.ensures) c.args.steps.now
     c.in-Err-give.field-0 (g.O.Sink.state c.give.new.self) c.in-Err-give.ensures.given
 
 pub returns-clause-ends : goal.returns-clause-ends
 returns-clause-ends g c =
     opened_replies c.args.session (g.F.Folder.state c.args.folder.now) (g.I.Source.state c.args.input.now) (g.O.Sink.state c.args.out.now)
-    c.as_slice.result.now (c.as_slice.ensures.value ∙ c.in-Ok.ensures ∙ ap accepted_line c.counts-counts.ensures)
+    c.as_slice.result.now (c.as_slice.ensures.value ∙ c.in-Ok.ensures ∙ ap accepted_line c.counts-counts.ensures) c.args.steps.now
     (g.O.Sink.state c.give.new.self) (g.O.Sink.state c.talk.new.out) (g.F.Folder.state c.talk.new.folder) c.talk.new.session
-    (g.I.Source.state c.talk.new.input) c.talk.result c.in-Ok-give.ensures.given
+    (g.I.Source.state c.talk.new.input) c.talk.result c.talk.new.steps c.in-Ok-give.ensures.given
     c.talk.ensures.talks (c.talk.ensures.asks []).asks

@@ -1,16 +1,19 @@
--- Where the changes of an edit look, before anything is generated. own.
+-- Where an edit looks. own.
 --     climbed sights paths            the paths up to the first at which something stands
 --     change_looks sights change      where one change looks
 --     behind_change made next         where it is looked behind a change, which is made
 --     edit_looks draft edit           where the changes look, one after another, up to the first that can't be made
-use Rattle.std.specs.Prelude.{ℕ, List, [], ◌∷◌, ◌++◌, Result, Ok, Err, is_some, if◌then◌else◌}
+--     IsEditLook state edit path      the edit looks there, or the generation for what it leaves does
+use Rattle.std.specs.Prelude.{◌≡◌, ℕ, List, [], ◌∷◌, ◌++◌, Result, Ok, Err, is_some, Contains, if◌then◌else◌}
 use Rattle.std.specs.FinMap.{get}
 use Rattle.tree_spec.specs.FoldersAbove.{folders_from}
-use Rattle.tree_spec.specs.LookAskings.{Sights}
+use Rattle.tree_spec.specs.LookAskings.{Sights, footprint}
+use Rattle.trace_spec.specs.Traces.{generation}
 use Rattle.session_spec.specs.declared.Change.{Change}
 use Rattle.session_spec.specs.declared.Change.TheVariants.{Link, Unlink, Put, Drop}
 use Rattle.session_spec.specs.declared.EditFault.{EditFault}
-use Rattle.session_spec.specs.Edits.{Draft, changed}
+use Rattle.session_spec.specs.Edits.{Draft, changed, edited}
+use Rattle.session_spec.specs.SessionStates.{SessionState, draft_of, config_with}
 
 abbrev pub climbed : Sights → List (List ℕ) → List (List ℕ)
 climbed sights [] = []
@@ -32,3 +35,10 @@ abbrev pub edit_looks : Draft → List Change → List (List ℕ)
 edit_looks draft [] = []
 edit_looks draft (change ∷ edit) =
     change_looks (get draft.tree) change ++ behind_change (changed draft change) (λ after. edit_looks after edit)
+
+pub data IsEditLook (state : SessionState) (edit : List Change) (path : List ℕ) : Type 0 where
+  of_change : Contains (edit_looks (draft_of state) edit) path → IsEditLook state edit path
+  of_generation :
+      (draft : Draft) → edited (draft_of state) edit ≡ Ok draft
+      → Contains (footprint (get draft.tree) (generation (config_with state.config draft.entries))) path
+      → IsEditLook state edit path
