@@ -42,4 +42,4 @@ must_not_compile() {
 }
 
 must_not_compile view_is_kept module_graph 'borrow-e050[0-9]' 'uses the view'
-must_not_compile requests_are_forged 'primitives es_module_parser' 'private-[a-z]*' 'is refused'
+must_not_compile requests_are_forged 'shared_types es_module_parser' 'private-[a-z]*' 'is refused'

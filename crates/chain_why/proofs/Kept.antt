@@ -5,7 +5,7 @@ use Rattle.std.specs.List.{list_any}
 use Rattle.std.proofs.lemmas.Bool.{cases_Bool, cond-true, cond-false}
 use Rattle.std.proofs.lemmas.List.Folds.{list_any-append}
 use Rattle.std.proofs.lemmas.Option.{slice_get_within, slice_get_cases}
-use Rattle.primitives.proofs.ListSteps.{drop_at}
+use Rattle.shared_types.proofs.ListSteps.{drop_at}
 use Rattle.indexmap.specs.IndexSet.{insert_key}
 use Rattle.slot_arena.specs.Slots as arena
 use Rattle.slot_arena.specs.declared.slot.Slot.{Slot}

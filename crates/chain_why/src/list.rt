@@ -1,7 +1,7 @@
 ghost use Rattle.std.specs.Prelude.{◌≡◌, ◌==◌, [], ◌∷◌, ◌++◌, if◌then◌else◌, is_ok, length, option_map, slice_get};
 
 use module_graph::Slot;
-use primitives::Memory;
+use shared_types::Memory;
 use std::alloc::Global;
 use std::marker::Model;
 

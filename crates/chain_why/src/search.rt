@@ -9,7 +9,7 @@ use crate::asker::{Asker, asker_at};
 use crate::reached::Reached;
 use indexmap::IndexSet;
 use module_graph::{Slot, View};
-use primitives::Memory;
+use shared_types::Memory;
 use tree_model::Path;
 
 /// The first request that leads to a module at the path, asker by asker in the order in which they are reached; as what

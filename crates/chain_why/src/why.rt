@@ -8,7 +8,7 @@ use crate::reached::Reached;
 use crate::search::find;
 use indexmap::IndexSet;
 use module_graph::{Slot, View};
-use primitives::Memory;
+use shared_types::Memory;
 use std::alloc::Global;
 use tree_model::Path;
 

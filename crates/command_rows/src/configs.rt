@@ -4,9 +4,9 @@ use crate::words::{push_bracketed, words_of};
 use command_words::{Order, Wanted, WordsFault, order_of};
 use condition_match::Conditions;
 use config_spec::{ConfigFault, ProjectFault};
-use primitives::Text;
 use project_config::{NoConfig, config_of};
 use row_texts::Said;
+use shared_types::Text;
 use std::alloc::Global;
 use trace_walk::Config;
 

@@ -1,5 +1,5 @@
 use config_spec::ConfigFault;
-use primitives::Memory;
+use shared_types::Memory;
 
 /// Why words give no order.
 #[derive(Debug, Drop)]

@@ -7,7 +7,7 @@ ghost use Rattle.command_words.specs.Settings.{IsFilePage};
 use crate::fault::WordsFault;
 use condition_match::{Conditions, ConditionsFault};
 use config_spec::ConfigFault;
-use primitives::Text;
+use shared_types::Text;
 use std::alloc::Global;
 use std::marker::Model;
 use tree_model::{Path, PathFault};

@@ -2,7 +2,7 @@ ghost use Rattle.std.specs.Prelude.{List, ℕ, IfOk, OnErr};
 ghost use Rattle.node_spec.specs.declared.BareAnswer.{BareAnswer};
 
 use node_spec::BareAnswer;
-use primitives::Memory;
+use shared_types::Memory;
 use std::alloc::Global;
 
 /// What answers a bare text that a target names, and keeps what was found or why it stopped.

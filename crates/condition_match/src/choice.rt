@@ -11,7 +11,7 @@ use crate::index_keys::has_index_key;
 use crate::strings::choose_text;
 use node_spec::Outcome;
 use ordered_json::{Items, Members, Text, Value};
-use primitives::Memory;
+use shared_types::Memory;
 use std::alloc::Global;
 
 /// What a target is judged by, beside its package.

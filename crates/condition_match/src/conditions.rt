@@ -5,7 +5,7 @@ ghost use Rattle.node_spec.specs.Conditions.{names_in, is_name_byte, IsCondition
 ghost use Rattle.condition_match.specs.Names.{names_left};
 
 use crate::cuts::cut_once;
-use primitives::{Listed, Text};
+use shared_types::{Listed, Text};
 use std::alloc::{AllocError, Global};
 use std::marker::Model;
 

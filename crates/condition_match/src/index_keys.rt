@@ -6,8 +6,7 @@ ghost use Rattle.ordered_json.specs.Lists.{pairs_of};
 ghost use Rattle.ordered_json.specs.Shown.{members_of};
 
 use crate::choice::member_at;
-use ordered_json::Members;
-use property_order::array_index;
+use ordered_json::{Members, array_index};
 
 /// Whether a key is an array index.
 pub fn has_index_key(members: &Members) -> bool

@@ -6,7 +6,7 @@ ghost use Rattle.node_spec.specs.PackageTargets.{segments, is_invalid_segment, i
 ghost use Rattle.condition_match.specs.Segments.{segments_in, is_separator, is_invalid_name};
 
 use percent_encoding::percent_decode;
-use primitives::Memory;
+use shared_types::Memory;
 use std::alloc::Global;
 
 /// Whether a target that begins with `./` has an invalid segment behind that, and so may leave its package.

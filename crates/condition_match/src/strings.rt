@@ -10,7 +10,7 @@ use crate::choice::Rules;
 use crate::cuts::cut_once;
 use crate::segments::{is_invalid_match, leaves_package};
 use node_spec::{BareAnswer, Outcome};
-use primitives::{Memory, Text};
+use shared_types::{Memory, Text};
 use std::alloc::Global;
 use web_url::WebUrl;
 

@@ -7,7 +7,7 @@ ghost use Rattle.config_spec.specs.Laws.{OptionsAreJudged, WordsAreJudged, Proje
 ghost use Rattle.config_spec.specs.Laws.{ConfigsAreProjects, FaultsAreOfWords};
 ghost use Rattle.config_spec.specs.WorkedExamples.{WorkedExamples};
 
-use primitives::Text;
+use shared_types::Text;
 use tree_spec::LimitName;
 
 /// What is asked for.

@@ -14,7 +14,7 @@ ghost use Rattle.edit_session.specs.Making.{MakesTree};
 
 use crate::standing::{Standing, standing_of};
 use package_lookup::{Known, Over};
-use primitives::{Bytes, Memory};
+use shared_types::{Bytes, Memory};
 use std::alloc::Global;
 use tree_model::{Folder, Look, Path};
 use tree_spec::LookFault;

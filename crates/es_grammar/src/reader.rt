@@ -13,7 +13,7 @@ use grammar_spec::{Context, Rule};
 use grammar_table::{Node, body};
 use grammar_tokens::Tokens;
 use module_spec::Kind;
-use primitives::Memory;
+use shared_types::Memory;
 use std::alloc::Global;
 
 /// What is done next: a form is read, or one has given its outcome.

@@ -8,7 +8,7 @@ ghost use Rattle.es_grammar.specs.Saying.{AreKept};
 use es_module_parser::{Requests, string_value};
 use grammar_tokens::Spot;
 use module_spec::Request;
-use primitives::{Listed, Memory, Text};
+use shared_types::{Listed, Memory, Text};
 use std::alloc::Global;
 
 fn or_nothing(alloc: Global, value: Option<Text>) -> Text

@@ -15,7 +15,7 @@ use grammar_spec::Strict;
 use grammar_spots::spots_of;
 use grammar_tokens::{Spot, Tokens};
 use module_spec::Request;
-use primitives::{Listed, Memory};
+use shared_types::{Listed, Memory};
 use std::alloc::{AllocError, Global};
 
 // The tokens of a text that has an outline, and so has no fault among them.

@@ -3,7 +3,7 @@ ghost use Rattle.es_grammar.specs.Pending.{pending};
 
 use grammar_spec::Context;
 use grammar_table::Node;
-use primitives::Memory;
+use shared_types::Memory;
 use std::alloc::Global;
 
 /// What is to be done when a form has given its outcome.

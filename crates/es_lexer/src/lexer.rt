@@ -9,7 +9,7 @@ use crate::sorts::kind_of;
 use crate::spellings::{hashbang_rest, skip};
 use crate::state::{Last, Open, change, top_of};
 use module_spec::{Bracket, LexFault, Token};
-use primitives::Memory;
+use shared_types::Memory;
 use std::alloc::Global;
 use std::marker::Model;
 use tree_spec::MOST_BRACKETS;

@@ -4,7 +4,7 @@ ghost use Rattle.module_spec.specs.Tokens.{ReadsTokens};
 
 use crate::lexer::Lexer;
 use module_spec::{LexFault, Token};
-use primitives::Listed;
+use shared_types::Listed;
 use std::alloc::{AllocError, Global};
 
 /// Why a text's tokens aren't listed.

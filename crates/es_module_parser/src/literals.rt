@@ -13,7 +13,7 @@ ghost use Rattle.es_module_parser.specs.Literals.{NoNumber, IsNumber, IsCount, N
 ghost use Rattle.es_module_parser.specs.Literals.{NoUnicode, IsUnicode, NoHex, IsHex, NoEscape, IsEscape};
 ghost use Rattle.es_module_parser.specs.Literals.{NoElement, IsElement};
 
-use primitives::{Memory, Text};
+use shared_types::{Memory, Text};
 use std::alloc::Global;
 
 /// The most digits that an escape in braces may have.

@@ -10,7 +10,7 @@ use crate::expect::{Expect, Seen, Turn};
 use crate::literals::string_value;
 use crate::terminals::is_word;
 use module_spec::{ModuleFault, Request, Token};
-use primitives::{Listed, Memory};
+use shared_types::{Listed, Memory};
 use std::alloc::Global;
 use tree_spec::MOST_MODULE_REQUESTS;
 

@@ -14,7 +14,7 @@ use crate::requests::{Outline, Requests};
 use crate::terminals::is_name;
 use es_lexer::{LexFault, LexKind, Lexer};
 use module_spec::{Kind, Request, Token};
-use primitives::{Listed, Steps};
+use shared_types::{Listed, Steps};
 use std::alloc::Global;
 use std::sync::ledger::Ledger;
 

@@ -1,7 +1,7 @@
 ghost use Rattle.std.specs.Prelude.{◌≡◌, IfOk, length, slice_get, option_copied};
 
 use module_spec::Request;
-use primitives::{Listed, Memory};
+use shared_types::{Listed, Memory};
 use std::alloc::Global;
 use std::marker::Model;
 

@@ -4,9 +4,9 @@ ghost use Rattle.generator_spec.specs.Digests as definition;
 ghost use Rattle.generation.specs.Digesting.{IsPut, kept_texts};
 
 use integrity_digest::kept_digest;
-use primitives::{Memory, Text};
 use request_trace::{Config, Trace};
 use scope_builder::Mappings;
+use shared_types::{Memory, Text};
 use std::alloc::Global;
 use std::collections::BTreeMap;
 

@@ -8,8 +8,8 @@ ghost use Rattle.generation.specs.Paging.{IsUnserved, IsUnservedAt};
 
 use crate::stop::Stop;
 use generator_spec::Refusal;
-use primitives::{Memory, Text};
 use request_trace::Config;
+use shared_types::{Memory, Text};
 use std::alloc::Global;
 use trace_spec::TraceFault;
 use web_url::{Suffix, WebFault, WebUrl, web_of};

@@ -6,8 +6,8 @@ ghost use Rattle.generation.specs.Generating.{Tracing, TracingOver};
 
 use crate::stop::{Stop, stop_of};
 use package_lookup::Known;
-use primitives::Steps;
 use request_trace::{Config, Trace, trace};
+use shared_types::Steps;
 use std::alloc::Global;
 use std::sync::ledger::Ledger;
 use tree_model::Folder;

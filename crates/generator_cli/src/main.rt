@@ -9,8 +9,8 @@ mod unplain;
 
 use disk_devices::{DiskFolder, StdSink, StdSource};
 use generator_core::run;
-use primitives::Steps;
 use run_texts::{BAD_WORDS, MEMORY, WRITE_FAULT, memory_line};
+use shared_types::Steps;
 use std::marker::Brand;
 use std::process::ExitCode;
 use std::rt::Runtime;

@@ -6,7 +6,7 @@ use Rattle.std.specs.List.{concat}
 use Rattle.std.specs.Prelude.{All, option_map, slice_get}
 use Rattle.std.proofs.lemmas.List.Elements.{All-nil, All-cons}
 use Rattle.module_graph.specs.declared.module.Module as vertex
-use Rattle.primitives.proofs.ListSteps.{drop_at}
+use Rattle.shared_types.proofs.ListSteps.{drop_at}
 use Rattle.trace_graph.specs.Links.{module_of, source_of}
 use Rattle.trace_graph.proofs.Showing.{as_many_specifiers}
 use Rattle.tree_spec.specs.States.{FolderState, SinkState, OnlyLooks}

@@ -4,7 +4,7 @@ use Rattle.std.specs.Prelude.{map as each, drop, slice_get, IfOk}
 use Rattle.std.specs.List.{concat}
 use Rattle.std.proofs.lemmas.List.{append-nil}
 use Rattle.std.proofs.lemmas.List.Folds.{concat-append}
-use Rattle.primitives.proofs.ListSteps.{drop_at}
+use Rattle.shared_types.proofs.ListSteps.{drop_at}
 use Rattle.import_map_spec.specs.ParsedMap.{ParsedMap}
 use Rattle.check_spec.specs.Differences.{differences}
 use Rattle.trace_spec.specs.Checks.{Gathered}

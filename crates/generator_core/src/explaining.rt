@@ -15,9 +15,9 @@ ghost use Rattle.generator_core.specs.Explaining.{AreLive, ExplainsFile, IsRepor
 use crate::checking::Report;
 use chain_why::{Chain, chain};
 use generation::{Stop, traced};
-use primitives::{Memory, Steps};
 use request_trace::{Config, Slot, Trace};
 use run_texts::{DONE, NOT_REACHED, from_page_line, not_reached_line, push_asks_line};
+use shared_types::{Memory, Steps};
 use std::alloc::Global;
 use std::sync::ledger::Ledger;
 use tree_model::{Folder, Path};

@@ -10,9 +10,9 @@ ghost use Rattle.generator_core.specs.Listing.{IsPushed, Lists};
 
 use crate::checking::Report;
 use generation::{Stop, traced};
-use primitives::{Memory, Steps};
 use request_trace::{Config, ModuleView, Trace};
 use run_texts::{DONE, push_module_line};
+use shared_types::{Memory, Steps};
 use std::alloc::Global;
 use std::sync::ledger::Ledger;
 use tree_model::Folder;

@@ -6,9 +6,9 @@ ghost use Rattle.request_trace.specs.Tracing.{TakesSteps};
 ghost use Rattle.generator_core.specs.Measuring.{Measures};
 
 use generation::{Generated, Stop, generate};
-use primitives::Steps;
 use project_config::measure_config;
 use request_trace::Config;
+use shared_types::Steps;
 use std::alloc::Global;
 use std::sync::ledger::Ledger;
 use workload::{SureFolder, tree_of};

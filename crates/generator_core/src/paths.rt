@@ -2,7 +2,7 @@ ghost use Rattle.std.specs.Prelude.{◌≡◌, ℕ, List, IfOk};
 ghost use Rattle.config_spec.specs.Projects as project;
 ghost use Rattle.generator_spec.specs.Commands as spec;
 
-use primitives::Memory;
+use shared_types::Memory;
 use std::alloc::{AllocError, Global};
 use tree_model::{Path, PathFault};
 

@@ -29,13 +29,13 @@ use crate::vendoring::{Copies, prepare_copies};
 use command_words::{Order, Wanted, WordsFault, order_of};
 use generation::{Generated, Stop};
 use generator_spec::{Command, Refusal};
-use primitives::Steps;
 use request_trace::Config;
 use run_texts::{
     BAD_WORDS, DONE, MEMORY, READ_FAULT, WRITE_FAULT, done_line, line_of, measure_line,
     memory_line, not_plain_line, read_fault_line, status_of, vendored_line, write_fault_line,
 };
 use session_run::session;
+use shared_types::Steps;
 use std::alloc::Global;
 use std::sync::ledger::Ledger;
 use tree_model::{Folder, Path, Sink, Source};

@@ -8,8 +8,8 @@ ghost use Rattle.generator_core.specs.Vendoring.{IsFree, PreparesCopies, StopsCo
 use generation::{Stop, generate_traced};
 use generator_spec::Refusal;
 use package_lookup::Known;
-use primitives::{Steps, Text};
 use request_trace::Config;
+use shared_types::{Steps, Text};
 use std::alloc::Global;
 use std::sync::ledger::Ledger;
 use tree_model::{Folder, Path};

@@ -12,7 +12,7 @@ use config_spec::ConfigFault;
 pub use copies::{copy_generates, vendored_generates};
 use import_map_spec::MapPart;
 use page_spec::InjectFault;
-use primitives::Text;
+use shared_types::Text;
 use trace_spec::TraceFault;
 use tree_spec::LimitName;
 

@@ -1,5 +1,5 @@
 use module_spec::Request;
-use primitives::Listed;
+use shared_types::Listed;
 
 /// What the statement grammar says of a module text, beside its outline.
 #[derive(Drop)]

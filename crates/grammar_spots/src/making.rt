@@ -8,7 +8,7 @@ ghost use Rattle.grammar_spots.specs.Making.{IsSpotOf, HasNoRoom};
 use crate::words::{is_assignment, is_closing, is_key_end, is_operator, is_reserved, is_short_end};
 use grammar_tokens::Spot;
 use module_spec::{Kind, Token};
-use primitives::Memory;
+use shared_types::Memory;
 use std::alloc::AllocError;
 
 fn is_name(kind: Kind) -> bool

@@ -7,7 +7,7 @@ ghost use Rattle.grammar_spots.specs.Texts.{SpotsOf};
 use crate::making::spot_of;
 use es_lexer::{Lexer, TokensFault, begins_line_end};
 use grammar_tokens::Spot;
-use primitives::Listed;
+use shared_types::Listed;
 use std::alloc::Global;
 
 // A line end stands among the bytes.

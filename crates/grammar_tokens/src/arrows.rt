@@ -4,7 +4,7 @@ ghost use Rattle.grammar_tokens.specs.Spots.{IsSpot, AreUnset, sight_of, arrows_
 
 use crate::spot::Spot;
 use crate::tokens::code_of;
-use primitives::Memory;
+use shared_types::Memory;
 use std::alloc::Global;
 
 // One more than a depth can be.

@@ -8,7 +8,7 @@ ghost use Rattle.grammar_tokens.specs.Spots.{IsSpot, arrow_at, sight_of, key_end
 use crate::arrows::{arrows_of, is_word};
 use crate::spot::Spot;
 use module_spec::Kind;
-use primitives::Memory;
+use shared_types::Memory;
 use std::alloc::Global;
 use std::marker::Model;
 

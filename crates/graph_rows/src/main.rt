@@ -10,7 +10,7 @@ mod places;
 
 use modules::{Led, lead, module_of};
 use places::give_anew;
-use primitives::{Memory, Steps};
+use shared_types::{Memory, Steps};
 use std::alloc::Global;
 use std::io;
 use std::marker::Brand;

@@ -4,7 +4,7 @@ ghost use Rattle.graph_rows.specs.Targets.{first_target};
 
 use es_module_parser::outline;
 use module_graph::{Graph, Module, Slot};
-use primitives::{Bytes, Listed, Memory, Steps};
+use shared_types::{Bytes, Listed, Memory, Steps};
 use std::alloc::Global;
 use std::rc::Rc;
 use std::sync::ledger::Ledger;

@@ -1,6 +1,6 @@
 ghost use Rattle.std.specs.Prelude.{◌≡◌, Option, Some, None, IfOk};
 
-use primitives::Memory;
+use shared_types::Memory;
 use slot_arena::SlotArena;
 use std::alloc::Global;
 

@@ -3,7 +3,7 @@ ghost use Rattle.html_scan.specs.Listing.{Lists, IsFault};
 
 use crate::scanner::Scanner;
 use page_spec::{Piece, PieceKind};
-use primitives::Listed;
+use shared_types::Listed;
 use std::alloc::{AllocError, Global};
 
 /// The pieces of a page in their order.

@@ -5,8 +5,8 @@ ghost use Rattle.std.specs.Prelude.{◌≡◌, IfOk};
 ghost use Rattle.integrity_spec.specs.DigestTexts.{digest_text};
 
 use base64::engine::general_purpose::STANDARD;
-use primitives::{Memory, Text};
 use sha2::{Digest, Sha384};
+use shared_types::{Memory, Text};
 use std::alloc::Global;
 use std::str;
 

@@ -9,7 +9,7 @@ ghost use Rattle.place_nodes.specs.Nodes.{AreNodes, places_of};
 use crate::costs::Costs;
 use crate::laid::Laid;
 use place_nodes::{Node, node_at};
-use primitives::{Memory, Text};
+use shared_types::{Memory, Text};
 use std::alloc::Global;
 
 /// Lays what is chosen for a specifier, by the penalties of its places, of which the last one's stand first.

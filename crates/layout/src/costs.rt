@@ -1,7 +1,7 @@
 ghost use Rattle.std.specs.Prelude.{◌≡◌, IfOk};
 ghost use Rattle.layout.specs.Costs as definition;
 
-use primitives::{Listed, Memory};
+use shared_types::{Listed, Memory};
 use std::alloc::{AllocError, Global};
 
 /// What each target costs a place.

@@ -1,4 +1,4 @@
-use primitives::Memory;
+use shared_types::Memory;
 
 /// Why needs have no layout.
 #[derive(Clone, Copy, Debug, PartialEq, Eq)]

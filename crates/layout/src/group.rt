@@ -3,7 +3,7 @@ ghost use Rattle.layout_spec.specs.declared.Need.{Need};
 ghost use Rattle.layout.specs.Groups.{IsFront, IsGroup, targets_onto};
 
 use place_nodes::Row;
-use primitives::{Memory, Text};
+use shared_types::{Memory, Text};
 use std::alloc::Global;
 use std::collections::BTreeSet;
 

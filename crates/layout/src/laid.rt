@@ -7,8 +7,8 @@ ghost use Rattle.scope_builder.specs.Lists.{Lists};
 ghost use Rattle.layout.specs.Grouped.{scopes_of, listed_scope};
 ghost use Rattle.layout.specs.Laid.{laid_map};
 
-use primitives::{Memory, Text};
 use scope_builder::{Layout, Mappings, Scopes};
+use shared_types::{Memory, Text};
 use std::alloc::Global;
 use std::collections::BTreeMap;
 

@@ -10,7 +10,7 @@ ghost use Rattle.layout.specs.Laid.{laid_map};
 use crate::fault::LayoutFault;
 use crate::laid::Laid;
 use place_nodes::{Row, nodes_of};
-use primitives::{Memory, Text};
+use shared_types::{Memory, Text};
 use std::alloc::Global;
 use tree_spec::MOST_CHOICES;
 

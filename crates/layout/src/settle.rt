@@ -6,7 +6,7 @@ ghost use Rattle.place_nodes.specs.Nodes.{AreNodes, places_of};
 
 use crate::costs::{Costs, penalties, sum};
 use place_nodes::{Node, node_at};
-use primitives::Memory;
+use shared_types::Memory;
 use std::alloc::Global;
 
 /// The penalties of each place, the last place's first. Each is settled after all that are below it.

@@ -11,7 +11,7 @@ use crate::group::targets_of;
 use crate::laid::Laid;
 use crate::settle::settled;
 use place_nodes::{Node, Row, nodes_of, number_of};
-use primitives::{Memory, Text};
+use shared_types::{Memory, Text};
 use std::alloc::Global;
 use std::collections::BTreeSet;
 

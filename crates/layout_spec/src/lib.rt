@@ -8,7 +8,7 @@ ghost use Rattle.layout_spec.specs.Laws.{ShortByCases, ShortFormsDiffer, ShortFo
 ghost use Rattle.layout_spec.specs.ShortExamples.{ShortExamples};
 ghost use Rattle.layout_spec.specs.WorkedExamples.{WorkedExamples};
 
-use primitives::Text;
+use shared_types::Text;
 
 /// A need: what a map has to serve.
 #[derive(Debug, Drop)]

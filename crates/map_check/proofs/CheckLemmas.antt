@@ -1,7 +1,7 @@
 -- One need after another.
 use Rattle.std.proofs.Common.{◌≡◌, ℕ, ◌+◌, List, ◌∷◌, ◌++◌, Some, ap, ◌∙◌}
 use Rattle.std.specs.Prelude.{map, drop, slice_get}
-use Rattle.primitives.proofs.ListSteps.{drop_at}
+use Rattle.shared_types.proofs.ListSteps.{drop_at}
 use Rattle.import_map_spec.specs.ParsedMap.{ParsedMap}
 use Rattle.layout_spec.specs.declared.Need.{Need}
 use Rattle.check_spec.specs.Differences.{differences, differences_from}

@@ -7,7 +7,7 @@ use crate::{Difference, Differences, Got};
 use html_resolve::{HtmlFault, resolve_normalized};
 use map_parse::ParsedMap;
 use need_table::{Need, Needs};
-use primitives::Memory;
+use shared_types::Memory;
 use std::alloc::{AllocError, Global};
 
 /// The needs that a map doesn't serve, as those of a trace.

@@ -1,4 +1,4 @@
-use primitives::{Listed, Text};
+use shared_types::{Listed, Text};
 
 /// What a need comes to that doesn't come to its target.
 #[derive(Debug, Drop)]

@@ -9,7 +9,7 @@ use Rattle.import_map_spec.specs.ParsedMap.{Addresses, Texts}
 use Rattle.import_map_spec.specs.declared.MapPart.{MapPart}
 use Rattle.ordered_json.specs.Shown.{json_of}
 use Rattle.ordered_json.specs.declared.value.Value.{Value}
-use Rattle.property_order.specs.Lent.{lent}
+use Rattle.ordered_json.specs.Lent.{lent}
 use Rattle.map_parse.specs.Faults.{FailsPart}
 use Rattle.map_parse.specs.declared.fault.MapFault.{MapFault}
 use Rattle.import_map_spec.specs.Parsing.{scopes_onto, with_scope, normalized_addresses}

@@ -10,7 +10,7 @@ ghost use Rattle.ordered_json.specs.Shown.{json_of, members_of};
 use crate::text_map::Gathering;
 use crate::{TextMap, UrlText};
 use ordered_json::{Members, Value};
-use primitives::{Memory, Text};
+use shared_types::{Memory, Text};
 use std::alloc::Global;
 use std::marker::Model;
 use web_url::{WebUrl, as_url, ends_in_slash, normalized};

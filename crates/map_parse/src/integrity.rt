@@ -7,7 +7,7 @@ ghost use Rattle.ordered_json.specs.Shown.{json_of, members_of};
 use crate::TextMap;
 use crate::text_map::Gathering;
 use ordered_json::{Members, Value};
-use primitives::{Memory, Text};
+use shared_types::{Memory, Text};
 use std::alloc::Global;
 use web_url::{WebUrl, as_url};
 

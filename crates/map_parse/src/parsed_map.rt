@@ -2,7 +2,7 @@ ghost use Rattle.std.specs.Prelude.{◌≡◌, option_copied};
 ghost use Rattle.std.specs.FinMap.{get};
 
 use crate::{Addresses, TextMap};
-use primitives::Text;
+use shared_types::Text;
 use std::marker::Model;
 
 /// An import map.

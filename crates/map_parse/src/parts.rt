@@ -5,7 +5,7 @@ ghost use Rattle.ordered_json.specs.Shown.{json_of, members_of};
 ghost use Rattle.map_parse.specs.Parts.{HoldsParts};
 
 use ordered_json::{Members, Value};
-use primitives::Memory;
+use shared_types::Memory;
 
 /// The members of a map's text that count, those of them that are there.
 #[derive(Drop)]

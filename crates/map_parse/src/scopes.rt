@@ -5,14 +5,13 @@ ghost use Rattle.import_map_spec.specs.Parsing.{scopes_onto, normalized_scopes, 
 ghost use Rattle.ordered_json.specs.Lists.{pairs_of};
 ghost use Rattle.ordered_json.specs.Shown.{json_of, members_of};
 ghost use Rattle.json_spec.specs.Value.{a_member, Members as Spec};
-ghost use Rattle.property_order.specs.Lent.{lent};
+ghost use Rattle.ordered_json.specs.Lent.{lent};
 ghost use Rattle.map_parse.specs.Faults.{FailsPart};
 
 use crate::text_map::Gathering;
 use crate::{Addresses, MapFault, MapPart, TextMap};
-use ordered_json::{Members, Text, Value};
-use primitives::Memory;
-use property_order::in_property_order;
+use ordered_json::{Members, Text, Value, in_property_order};
+use shared_types::Memory;
 use std::alloc::Global;
 use web_url::WebUrl;
 

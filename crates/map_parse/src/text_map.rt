@@ -1,7 +1,7 @@
 ghost use Rattle.std.specs.Prelude.{◌≡◌, IfOk, OnOk, option_copied};
 ghost use Rattle.std.specs.FinMap.{get, insert, empty};
 
-use primitives::{Memory, Text};
+use shared_types::{Memory, Text};
 use std::alloc::Global;
 use std::marker::Model;
 

@@ -4,8 +4,8 @@ ghost use Rattle.tree_spec.specs.Limits.{limit_number};
 ghost use Rattle.tree_spec.specs.declared.LimitName.TheVariants.{Map};
 ghost use Rattle.map_print.specs.LeastSizes as definition;
 
-use primitives::Text;
 use scope_builder::{Layout, Mappings};
+use shared_types::Text;
 use tree_spec::MOST_MAP_BYTES;
 
 /// Whether the text of a map has too many bytes whatever is escaped in it. `folder` is the size of the map base's folder.

@@ -6,7 +6,7 @@ ghost use Rattle.layout_spec.specs.ShortForms.{folder_text, short};
 ghost use Rattle.map_print.specs.PlainRests.{IsPlainShort};
 
 use crate::plain::{is_plain_page, is_plain_rest};
-use primitives::{Memory, Text};
+use shared_types::{Memory, Text};
 use std::alloc::Global;
 use std::marker::Model;
 use web_url::WebUrl;

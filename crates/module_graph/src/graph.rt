@@ -6,7 +6,7 @@ ghost use Rattle.module_graph.specs.Graphs.{AreModules, Connects};
 
 use crate::module::Module;
 use crate::view::View;
-use primitives::{Listed, Memory};
+use shared_types::{Listed, Memory};
 use slot_arena::{Slot, SlotArena};
 use std::alloc::Global;
 use std::marker::Model;

@@ -2,7 +2,7 @@ ghost use Rattle.std.specs.Prelude.{◌↔◌, IsTrue};
 ghost use Rattle.module_graph.specs.Modules.{HasSpan, IsModule};
 
 use es_module_parser::Requests;
-use primitives::{Bytes, Listed};
+use shared_types::{Bytes, Listed};
 use slot_arena::Slot;
 use std::rc::Rc;
 use tree_model::Path;

@@ -5,7 +5,7 @@ ghost use Rattle.module_graph.specs.Modules.{IsModule, asked_at, literal_at, tar
 
 use crate::graph::Graph;
 use crate::module::Module;
-use primitives::Bytes;
+use shared_types::Bytes;
 use slot_arena::Slot;
 use std::marker::Model;
 use tree_model::Path;

@@ -18,7 +18,7 @@ use crate::{NoSource, Source};
 use es_module_parser::{Outline, OutlineFault, outline};
 use node_spec::Reason;
 use package_lookup::{Format, Known, LookupFault, Seen, Trail, format_of};
-use primitives::{Bytes, Memory, Steps};
+use shared_types::{Bytes, Memory, Steps};
 use std::alloc::{AllocError, Global};
 use std::rc::Rc;
 use std::sync::ledger::Ledger;

@@ -1,6 +1,6 @@
 use es_module_parser::Requests;
 use node_spec::Reason;
-use primitives::Bytes;
+use shared_types::Bytes;
 use std::rc::Rc;
 use tree_spec::LimitName;
 

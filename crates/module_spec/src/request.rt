@@ -1,4 +1,4 @@
-use primitives::Text;
+use shared_types::Text;
 
 /// What a module asks for: the place of a module specifier with its quotes, in bytes, and the text that it stands for.
 /// ECMA-262, 16.2.2 and 12.9.4.2.

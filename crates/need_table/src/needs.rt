@@ -8,7 +8,7 @@ ghost use Rattle.need_table.specs.Rows.{asks_alike, Adds};
 use crate::asking::Asking;
 use indexmap::IndexSet;
 use layout_spec::Need;
-use primitives::Memory;
+use shared_types::Memory;
 use std::alloc::Global;
 use std::marker::Model;
 

@@ -20,7 +20,7 @@ use condition_match::{BareTarget, Conditions, choose};
 use node_spec::{BareAnswer, Cause, Outcome};
 use ordered_json::Value;
 use package_lookup::{Known, Trail};
-use primitives::Memory;
+use shared_types::Memory;
 use std::alloc::Global;
 use tree_model::{Folder, Path};
 use tree_spec::LimitName;

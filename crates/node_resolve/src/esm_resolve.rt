@@ -20,7 +20,7 @@ use crate::texts::begins;
 use condition_match::Conditions;
 use node_spec::Cause;
 use package_lookup::{Known, Trail, folder_of};
-use primitives::Steps;
+use shared_types::Steps;
 use std::alloc::Global;
 use std::sync::ledger::Ledger;
 use tree_model::{Folder, Path};

@@ -11,7 +11,7 @@ ghost use Rattle.package_lookup.specs.Responses.{itself};
 use crate::NodeFault;
 use crate::texts::begins;
 use node_spec::Cause;
-use primitives::Memory;
+use shared_types::Memory;
 use std::alloc::Global;
 use tree_model::Path;
 use web_url::{FileUrl, file_join, file_url};

@@ -1,6 +1,6 @@
 ghost use Rattle.std.specs.Prelude.{◌≡◌, IfOk};
 
-use primitives::Memory;
+use shared_types::Memory;
 use std::alloc::Global;
 use tree_model::{Path, Paths};
 use web_url::Suffix;

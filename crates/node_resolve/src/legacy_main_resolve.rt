@@ -16,7 +16,7 @@ use crate::file_urls::{folder_url, join};
 use crate::places::serves;
 use node_spec::Cause;
 use package_lookup::{Known, LookupFault, Trail};
-use primitives::Memory;
+use shared_types::Memory;
 use std::alloc::Global;
 use tree_model::{Folder, Path};
 use web_url::FileUrl;

@@ -8,7 +8,7 @@ ghost use Rattle.node_spec.specs.PackageResolve as spec;
 ghost use Rattle.node_resolve.specs.Asked.{IsSplit, IsSubpath};
 
 use crate::texts::begins;
-use primitives::{Memory, Text};
+use shared_types::{Memory, Text};
 use std::alloc::Global;
 
 /// A package's name, with a subpath, which is `.` or begins with `./`.

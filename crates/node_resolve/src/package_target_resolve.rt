@@ -16,7 +16,7 @@ use crate::file_urls::{check_url, folder_url, join};
 use condition_match::{BareTarget, Conditions, choose};
 use node_spec::{BareAnswer, Cause, Outcome};
 use ordered_json::Value;
-use primitives::Memory;
+use shared_types::Memory;
 use std::alloc::Global;
 use tree_model::Path;
 use web_url::FileUrl;

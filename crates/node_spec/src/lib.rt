@@ -19,7 +19,7 @@ ghost use Rattle.node_spec.specs.Laws.{FindsRelative};
 ghost use Rattle.node_spec.specs.RecordExamples.{RecordExamples};
 ghost use Rattle.node_spec.specs.TargetExamples.{TargetExamples};
 
-use primitives::Text;
+use shared_types::Text;
 
 /// Why a specifier is refused.
 #[derive(Clone, Copy, Debug, PartialEq, Eq)]

@@ -6,3 +6,5 @@ pub mod NumbersLemmas
 pub mod PairsLemmas
 pub mod ShownLemmas
 pub mod StringsLemmas
+pub mod IndexKeys
+pub mod PropertyOrderLemmas

@@ -4,3 +4,4 @@ pub mod Shown
 pub mod Scanned
 pub mod Outcomes
 pub mod Pairs
+pub mod Lent

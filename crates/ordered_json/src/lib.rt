@@ -7,7 +7,9 @@
 
 mod escapes;
 mod fault;
+mod index_keys;
 mod numbers;
+mod property_order;
 mod quoting;
 mod reader;
 mod scan;
@@ -16,7 +18,9 @@ mod strings;
 mod value;
 
 pub use fault::JsonFault;
-pub use primitives::Text;
+pub use index_keys::array_index;
+pub use ordered_json::in_property_order;
 pub use quoting::print_text;
 pub use reader::read;
+pub use shared_types::Text;
 pub use value::{Items, Members, Value};

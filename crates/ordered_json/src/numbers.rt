@@ -4,7 +4,7 @@ ghost use Rattle.json_spec.specs.Numbers.{after_digits, digits_at, int_at, frac_
 ghost use Rattle.ordered_json.specs.Scanned.{Cut, CutBy, NoNumber, IsNumberAt, letter_at};
 
 use crate::scan::{after_byte, cut_first, piece_before};
-use primitives::{Memory, Text};
+use shared_types::{Memory, Text};
 use std::alloc::Global;
 
 /// The longest number at the front, as it is written, and the bytes behind it (RFC 8259, 6). None where there is none.

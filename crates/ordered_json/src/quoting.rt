@@ -1,7 +1,7 @@
 ghost use Rattle.std.specs.Prelude.{◌≡◌, ◌<◌, ◌++◌, length, take, OnOk, OnErr};
 ghost use Rattle.json_spec.specs.PrintedString.{quoted, escaped, escaped_byte, hex_digit};
 
-use primitives::Memory;
+use shared_types::Memory;
 
 const QUOTE: u8 = 34;
 

@@ -12,7 +12,7 @@ use crate::scan::{after_byte, after_word, cut_first, skip_space};
 use crate::settling::settle;
 use crate::strings::read_string;
 use crate::value::{Items, Members, Value};
-use primitives::Text;
+use shared_types::Text;
 use std::alloc::Global;
 use tree_spec::MOST_DEPTH;
 

@@ -5,7 +5,7 @@ ghost use Rattle.ordered_json.specs.Shown.{members_of};
 ghost use Rattle.ordered_json.specs.Pairs.{IsReplaced, IsIndexed, PutsPair, place_of};
 
 use crate::value::Value;
-use primitives::{Memory, Text};
+use shared_types::{Memory, Text};
 use std::alloc::{AllocError, Global};
 use std::collections::BTreeMap;
 

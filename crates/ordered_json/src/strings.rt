@@ -3,7 +3,7 @@ ghost use Rattle.ordered_json.specs.Scanned.{after_plain, is_plain, NoString, Ta
 
 use crate::escapes::read_escape;
 use crate::scan::{after_byte, cut_first, piece_before};
-use primitives::{Memory, Text};
+use shared_types::{Memory, Text};
 use std::alloc::Global;
 
 const QUOTE: u8 = 34;

@@ -1,7 +1,7 @@
 ghost use Rattle.std.specs.Prelude.{◌≡◌, ◌==◌, List, [], length, slice_get, option_copied, option_map, is_ok, IfOk};
 ghost use Rattle.ordered_json.specs.Lists.{pushed, values_of, pairs_of};
 
-use primitives::{Memory, Text};
+use shared_types::{Memory, Text};
 use std::alloc::Global;
 
 /// A JSON value, with the members of each object in their order.

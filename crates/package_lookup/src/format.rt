@@ -11,7 +11,7 @@ ghost use Rattle.package_lookup.specs.Responses.{given, by_fault, deep_config};
 use crate::packages::{record_of, scope_of};
 use crate::{Known, LookupFault, Trail};
 use node_spec::{PackageKind, Reason};
-use primitives::Memory;
+use shared_types::Memory;
 use std::alloc::Global;
 use tree_model::{Folder, Path};
 

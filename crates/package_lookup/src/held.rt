@@ -5,7 +5,7 @@ ghost use Rattle.package_lookup.specs.SeenLooks.{bytes_of, entry_of, look_of, lo
 ghost use Rattle.package_lookup.specs.Readings.{IsReadingOf, AreReadingsOf};
 
 use package_record::Package;
-use primitives::{Bytes, Memory};
+use shared_types::{Bytes, Memory};
 use std::alloc::Global;
 use std::marker::Model;
 use std::rc::Rc;

@@ -14,7 +14,7 @@ ghost use Rattle.package_lookup.specs.declared.fault.LookupFault.{LookupFault};
 
 use crate::held::{Held, Reading, Seen};
 use crate::{LookupFault, Over, Trail};
-use primitives::Memory;
+use shared_types::Memory;
 use std::alloc::Global;
 use std::collections::HashMap;
 use std::mem;

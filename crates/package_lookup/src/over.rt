@@ -3,7 +3,7 @@ ghost use Rattle.tree_spec.specs.declared.Look.{Look};
 ghost use Rattle.package_lookup.specs.Looked.{over_at, Puts, Follows};
 
 use crate::held::Held;
-use primitives::Memory;
+use shared_types::Memory;
 use std::alloc::Global;
 use std::collections::HashMap;
 use tree_model::{Look, Path};

@@ -18,7 +18,7 @@ ghost use Rattle.package_lookup.specs.Answered.{state, Answered};
 use crate::held::Reading;
 use crate::{Known, LookupFault, Seen, Trail};
 use package_record::{Package, PackageFault, read_package};
-use primitives::{Bytes, Memory};
+use shared_types::{Bytes, Memory};
 use std::alloc::{AllocError, Global};
 use std::rc::Rc;
 use tree_model::{Folder, Path};

@@ -7,7 +7,7 @@ ghost use Rattle.package_lookup.specs.Trails.{has_room, Lengthens, OnCount};
 
 use crate::LookupFault;
 use indexmap::IndexSet;
-use primitives::Memory;
+use shared_types::Memory;
 use std::alloc::Global;
 use std::marker::Model;
 use tree_model::{Path, Paths};

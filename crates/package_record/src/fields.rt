@@ -5,7 +5,7 @@ ghost use Rattle.json_spec.specs.Value.{a_member, Members as Spec};
 ghost use Rattle.package_record.specs.Fields.{HoldsFields};
 
 use ordered_json::{Members, Value};
-use primitives::Memory;
+use shared_types::Memory;
 
 /// The values of the fields that are looked for, null where a field is absent.
 #[derive(Drop)]

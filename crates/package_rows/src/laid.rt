@@ -2,8 +2,8 @@
 
 use crate::site::Site;
 use package_lookup::{LookupFault, Over, Seen};
-use primitives::Bytes;
 use row_texts::Said;
+use shared_types::Bytes;
 use std::alloc::Global;
 use tree_model::{Look, Memory, Path};
 

@@ -6,7 +6,7 @@ ghost use Rattle.place_nodes.specs.Building.{InTurn, IsBuilt, CanAdd, IsRowAdded
 use crate::nodes::{Node, add_places};
 use crate::rows::Row;
 use layout_spec::Need;
-use primitives::{Memory, Text};
+use shared_types::{Memory, Text};
 use std::alloc::Global;
 use tree_spec::MOST_CHOICES;
 

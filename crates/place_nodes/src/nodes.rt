@@ -4,8 +4,8 @@ ghost use Rattle.place_nodes.specs.Growing.{IsReady, IsAdded, IsGrown};
 ghost use Rattle.place_nodes.specs.Known.{AreKnown};
 ghost use Rattle.place_nodes.specs.Nodes.{IsAbove, places_of};
 
-use primitives::{Memory, Text};
 use scope_builder::is_folder;
+use shared_types::{Memory, Text};
 use std::alloc::Global;
 
 /// A place of the needs for one specifier.

@@ -5,7 +5,7 @@ ghost use Rattle.place_nodes.specs.Rows.{InOrder};
 
 use layout_spec::Need;
 use need_table::Needs;
-use primitives::Memory;
+use shared_types::Memory;
 use std::alloc::Global;
 use std::cmp::Ordering;
 use std::marker::Model;

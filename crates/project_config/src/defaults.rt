@@ -3,7 +3,7 @@ ghost use Rattle.command_words.specs.Settings.{IsFilePage};
 ghost use Rattle.config_spec.specs.Projects as spec;
 
 use condition_match::{Conditions, ConditionsFault};
-use primitives::Memory;
+use shared_types::Memory;
 use std::alloc::{AllocError, Global};
 use tree_model::{Path, PathFault};
 

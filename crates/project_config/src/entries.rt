@@ -3,7 +3,7 @@ ghost use Rattle.std.specs.List.{IsDistinct, list_any};
 ghost use Rattle.config_spec.specs.Projects as spec;
 
 use indexmap::IndexSet;
-use primitives::{Listed, Memory, Text};
+use shared_types::{Listed, Memory, Text};
 use std::alloc::Global;
 
 /// These entries with those of the words behind them, each once.

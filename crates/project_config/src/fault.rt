@@ -1,5 +1,5 @@
 use config_spec::ConfigFault;
-use primitives::Memory;
+use shared_types::Memory;
 
 /// Why there is no config.
 #[derive(Debug, Drop)]

@@ -9,7 +9,7 @@ use crate::fault::NoConfig;
 use command_words::Settings;
 use condition_match::Conditions;
 use config_spec::ConfigFault;
-use primitives::{Listed, Text};
+use shared_types::{Listed, Text};
 use std::alloc::Global;
 use trace_walk::Config;
 use tree_model::Path;

@@ -2,7 +2,7 @@ ghost use Rattle.std.specs.Prelude.{◌≡◌, ◌∷◌, [], codes, IfOk};
 ghost use Rattle.config_spec.specs.Projects as spec;
 
 use crate::defaults::{first_conditions, first_page};
-use primitives::{Listed, Memory, Text};
+use shared_types::{Listed, Memory, Text};
 use std::alloc::{AllocError, Global};
 use trace_walk::Config;
 use web_url::{Base, BaseFault};

@@ -6,7 +6,7 @@ ghost use Rattle.project_config.specs.Outcomes.{Comes};
 use crate::entries::{holds, without};
 use crate::fault::NoConfig;
 use config_spec::ConfigFault;
-use primitives::{Memory, Text};
+use shared_types::{Memory, Text};
 use std::alloc::Global;
 use trace_walk::Config;
 

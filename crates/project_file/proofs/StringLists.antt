@@ -12,7 +12,7 @@ use Rattle.json_spec.specs.Value.{Json, a_null, a_bool, a_number, a_text, a_list
 use Rattle.node_spec.specs.Records.{text_in}
 use Rattle.ordered_json.specs.Shown.{json_of, items_of}
 use Rattle.ordered_json.specs.declared.value.Value.{Value}
-use Rattle.primitives.proofs.ListSteps.{drop_at}
+use Rattle.shared_types.proofs.ListSteps.{drop_at}
 use Rattle.project_spec.specs.ProjectFiles.{strings}
 use Rattle.project_file.specs.Strings.{IsStringAt, NoStringAt, string_found}
 

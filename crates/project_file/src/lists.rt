@@ -9,7 +9,7 @@ ghost use Rattle.project_file.specs.Strings.{list_in, string_found};
 
 use indexmap::IndexSet;
 use ordered_json::{Items, Value};
-use primitives::{Listed, Memory, Text};
+use shared_types::{Listed, Memory, Text};
 use std::alloc::Global;
 
 /// The texts of a list of strings; None where a value of the list is no string.

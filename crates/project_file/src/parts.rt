@@ -14,7 +14,7 @@ use crate::lists::{are_distinct, are_names, joined, list_of, string_of, strings_
 use crate::project::Project;
 use condition_match::{Conditions, ConditionsFault};
 use ordered_json::{Items, Members, Value};
-use primitives::{Listed, Memory, Text};
+use shared_types::{Listed, Memory, Text};
 use std::alloc::{AllocError, Global};
 use tree_model::{Path, PathFault};
 use web_url::{Base, BaseFault};

@@ -9,7 +9,7 @@ ghost use Rattle.project_file.specs.Parts.{CanBeReadBack};
 
 use condition_match::Conditions;
 use ordered_json::print_text;
-use primitives::{Listed, Memory, Text};
+use shared_types::{Listed, Memory, Text};
 use std::alloc::Global;
 use trace_walk::Config;
 

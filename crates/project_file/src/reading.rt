@@ -7,7 +7,7 @@ use crate::fault::ProjectFault;
 use crate::parts::{filled, written_in};
 use crate::project::Project;
 use ordered_json::{JsonFault, Value, read};
-use primitives::Memory;
+use shared_types::Memory;
 use std::alloc::Global;
 use trace_walk::Config;
 use tree_spec::LimitName;

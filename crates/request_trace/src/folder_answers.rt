@@ -12,7 +12,7 @@ use condition_match::Conditions;
 use module_sources::{NoSource, Source, module_source};
 use node_resolve::{Found, NodeFault, resolve};
 use package_lookup::{Known, LookupFault, Trail};
-use primitives::Steps;
+use shared_types::Steps;
 use std::alloc::Global;
 use std::sync::ledger::Ledger;
 use trace_spec::TraceFault;

@@ -7,7 +7,7 @@ ghost use Rattle.tree_spec.specs.LookLimits.{no_trail};
 use crate::folder_answers::FolderAnswers;
 use crate::traces::Trace;
 use package_lookup::{Known, Trail};
-use primitives::Steps;
+use shared_types::Steps;
 use std::alloc::Global;
 use std::sync::ledger::Ledger;
 use trace_spec::TraceFault;

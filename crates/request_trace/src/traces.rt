@@ -14,7 +14,7 @@ ghost use Rattle.request_trace.specs.Tracing.{CountsModules};
 use crate::vertices::{Joined, join};
 use need_table::Needs;
 use package_lookup::Trail;
-use primitives::{Memory, Text};
+use shared_types::{Memory, Text};
 use std::alloc::{AllocError, Global};
 use std::marker::Model;
 use trace_graph::{ModuleView, Slot, TraceGraph, View};

@@ -5,7 +5,7 @@ ghost use Rattle.request_trace.specs.Joining.{IsVertex, AreJoined};
 
 use indexmap::IndexMap;
 use module_sources::Source;
-use primitives::{Listed, Memory, Text};
+use shared_types::{Listed, Memory, Text};
 use std::alloc::Global;
 use trace_graph::Vertex;
 use trace_walk::{Module, Name};

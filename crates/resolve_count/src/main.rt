@@ -9,7 +9,7 @@ use condition_match::Conditions;
 use disk_devices::DiskFolder;
 use node_resolve::{NodeFault, resolve};
 use package_lookup::{Known, Trail};
-use primitives::Steps;
+use shared_types::Steps;
 use std::alloc::Global;
 use std::marker::Brand;
 use std::rt::Runtime;

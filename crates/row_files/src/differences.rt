@@ -1,6 +1,6 @@
 //! Where a run differs from its row.
 
-use primitives::Memory;
+use shared_types::Memory;
 use std::alloc::Global;
 
 /// How many bytes of a text are shown at most.

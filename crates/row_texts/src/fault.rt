@@ -1,6 +1,6 @@
 //! What keeps a row file from being read.
 
-use primitives::Memory;
+use shared_types::Memory;
 use std::alloc::AllocFailed;
 use std::error::Error;
 use std::fmt;

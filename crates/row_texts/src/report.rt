@@ -1,6 +1,6 @@
 //! What came of the rows.
 
-use primitives::Memory;
+use shared_types::Memory;
 use std::alloc::Global;
 
 /// How many runs were tried, and how many ended as their rows say.

@@ -6,8 +6,8 @@ use crate::expected::{Expected, expected_of};
 use crate::outcome::outcome_of;
 use crate::outside::Outcome;
 use crate::replies::Replies;
-use primitives::Memory;
 use row_files::{Change, Reader, Row, RowFault, Run};
+use shared_types::Memory;
 use std::alloc::Global;
 
 /// The endings of all runs of a file, each on a line.

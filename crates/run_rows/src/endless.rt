@@ -2,7 +2,7 @@
 ghost use Rattle.std.specs.Prelude.{◌≡◌, ◌<◌};
 
 use generator_core::run;
-use primitives::{Bytes, Memory, Steps};
+use shared_types::{Bytes, Memory, Steps};
 use std::alloc::Global;
 use std::marker::Brand;
 use std::str;

@@ -3,8 +3,8 @@ ghost use Rattle.std.specs.Prelude.{◌≡◌, ◌<◌};
 
 use crate::outside::{Outcome, Outside};
 use generator_core::run;
-use primitives::Steps;
 use row_files::{Fails, RowFault, Run, Tree};
+use shared_types::Steps;
 use std::alloc::Global;
 use std::marker::Brand;
 use std::sync::ledger::{Blank, Ledger};

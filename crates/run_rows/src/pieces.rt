@@ -1,6 +1,6 @@
 //! A source whose bytes come in pieces.
 
-use primitives::Memory;
+use shared_types::Memory;
 use std::alloc::Global;
 use tree_model::{Failed, MemSource, Source};
 

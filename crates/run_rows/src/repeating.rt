@@ -2,11 +2,11 @@
 ghost use Rattle.std.specs.Prelude.{◌≡◌};
 
 use edit_session::{Edit, EditStop, Session};
-use primitives::{Bytes, Listed, Memory, Steps};
 use run_texts::{done_line, line_of};
 use session_spec::Change;
 use session_talk::{Editor, EditorFault};
 use session_texts::edit_line;
+use shared_types::{Bytes, Listed, Memory, Steps};
 use std::alloc::Global;
 use std::sync::ledger::Ledger;
 use tree_model::Folder;

@@ -1,6 +1,6 @@
 //! What a session says, reply by reply.
 
-use primitives::Memory;
+use shared_types::Memory;
 use std::alloc::Global;
 use std::str;
 

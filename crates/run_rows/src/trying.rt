@@ -4,10 +4,10 @@ use crate::again::{Repeated, again_outcome};
 use crate::comparing::{compare_looks, differences};
 use crate::expected::{Expected, expected_of};
 use crate::outcome::outcome_of;
-use primitives::Memory;
 use row_files::{
     Call, Change, Cut, Differences, Fails, Reader, Report, Row, RowFault, Run, Tree, Turns,
 };
+use shared_types::Memory;
 use std::alloc::Global;
 
 /// The runs of a file that were tried, and what is told of those that ended otherwise.

@@ -11,7 +11,7 @@ use map_check::Got;
 use node_spec::Reason;
 use ordered_json::print_text;
 use page_spec::InjectFault;
-use primitives::{Memory, Text};
+use shared_types::{Memory, Text};
 use std::alloc::Global;
 use trace_spec::{AskCause, TraceFault};
 use tree_spec::LimitName;

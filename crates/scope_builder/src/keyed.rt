@@ -2,7 +2,7 @@ ghost use Rattle.std.specs.Prelude.{◌≡◌, ◌==◌, List, [], ◌∷◌, �
 ghost use Rattle.std.specs.Prelude.{is_ok, IfOk};
 ghost use Rattle.scope_builder.specs.Keys.{InKeyOrder};
 
-use primitives::{Memory, Text};
+use shared_types::{Memory, Text};
 use std::alloc::Global;
 use std::collections::BTreeMap;
 use std::marker::Model;

@@ -6,7 +6,7 @@ ghost use Rattle.session_spec.specs.SessionLines.{changes, order_of, if_text, if
 ghost use Rattle.session_input.specs.Lines.{is_entry, reading_of, word_reading, last_word_reading};
 
 use crate::cuts::{behind_word, cut_last_space, number_of};
-use primitives::{Memory, Text};
+use shared_types::{Memory, Text};
 use std::alloc::{AllocError, Global};
 use tree_model::{Path, PathFault};
 

@@ -1,5 +1,5 @@
-use primitives::Memory;
 use session_spec::Change;
+use shared_types::Memory;
 
 /// What a line asks for.
 #[derive(Drop)]

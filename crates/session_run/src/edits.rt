@@ -7,10 +7,10 @@ ghost use Rattle.session_talk.specs.Editors.{EditsFrom};
 ghost use Rattle.session_run.specs.Editing.{IsViewOf, look_state, SaysLine, SaysStop};
 
 use edit_session::{Edit, EditStop, Session};
-use primitives::{Bytes, Memory, Steps};
 use run_texts::{done_line, line_of};
 use session_talk::EditorFault;
 use session_texts::edit_line;
+use shared_types::{Bytes, Memory, Steps};
 use std::alloc::Global;
 use std::sync::ledger::Ledger;
 use tree_model::Folder;

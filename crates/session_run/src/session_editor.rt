@@ -1,8 +1,8 @@
 use crate::edits::make_edit;
 use edit_session::Session;
-use primitives::{Bytes, Listed, Steps};
 use session_spec::Change;
 use session_talk::{Editor, EditorFault};
+use shared_types::{Bytes, Listed, Steps};
 use std::alloc::Global;
 use std::sync::ledger::Ledger;
 use tree_model::Folder;

@@ -11,7 +11,6 @@ ghost use Rattle.session_run.specs.Sessions.{HoldsSession, OpenedEnds, RefusedEn
 use crate::session_editor::SessionEditor;
 use edit_session::Session;
 use generation::Stop;
-use primitives::Steps;
 use request_trace::Config;
 use run_texts::{
     DONE, MEMORY, READ_FAULT, WRITE_FAULT, done_line, line_of, memory_line, read_fault_line,
@@ -19,6 +18,7 @@ use run_texts::{
 };
 use session_input::SessionInput;
 use session_talk::converse;
+use shared_types::Steps;
 use std::alloc::Global;
 use std::sync::ledger::Ledger;
 use tree_model::{Folder, Sink, Source};

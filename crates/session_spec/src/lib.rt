@@ -13,7 +13,7 @@ ghost use Rattle.session_spec.specs.TakenInput.{taken_at_once};
 ghost use Rattle.session_spec.specs.WorkedExamples.{LineExamples, TurnExamples, EntryExamples};
 ghost use Rattle.session_spec.specs.WorkedExamples.{EditExamples, AnswerExamples};
 
-use primitives::{Bytes, Text};
+use shared_types::{Bytes, Text};
 use tree_model::Path;
 
 /// Bytes of a session's input that are taken at once.

@@ -1,8 +1,8 @@
 ghost use Rattle.session_talk.specs.EditorLooks.{LookState, EditAsks};
 ghost use Rattle.session_talk.specs.Editors.{EditorState, EditsFrom, Shows};
 
-use primitives::{Bytes, Listed};
 use session_spec::Change;
+use shared_types::{Bytes, Listed};
 use std::alloc::Global;
 
 /// Why nothing comes of an edit.

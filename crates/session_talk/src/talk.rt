@@ -13,11 +13,11 @@ ghost use Rattle.session_talk.specs.Talking.{Now, now_at, GoesOn, IsOrdered, Con
 ghost use Rattle.session_talk.specs.Talking.{Makes, ShowsMap, TellsEnd, GivesReply};
 
 use crate::editor::{Editor, EditorFault};
-use primitives::Listed;
 use run_texts::{DONE, MEMORY, READ_FAULT, WRITE_FAULT, memory_line, read_fault_line};
 use session_input::{InputFault, Order, Reading, SessionInput};
 use session_spec::Change;
 use session_texts::{BAD_INPUT, INPUT_LIMIT, bad_line, end_line, map_line, too_long_line};
+use shared_types::Listed;
 use std::alloc::Global;
 use tree_model::{Sink, Source};
 

@@ -11,9 +11,9 @@ ghost use Rattle.session_spec.specs.Replies.{fault_line};
 
 use generator_spec::Refusal;
 use ordered_json::print_text;
-use primitives::Memory;
 use run_texts::line_of;
 use session_spec::EditFault;
+use shared_types::Memory;
 use std::alloc::Global;
 use tree_spec::LimitName;
 

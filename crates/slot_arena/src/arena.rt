@@ -8,7 +8,7 @@ ghost use Rattle.std.specs.Option.{option_copied_mut};
 use crate::chunk::CHUNK;
 use crate::places::Places;
 use crate::slot::Slot;
-use primitives::Memory;
+use shared_types::Memory;
 use std::alloc::Global;
 use std::marker::Model;
 

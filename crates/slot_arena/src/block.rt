@@ -9,7 +9,7 @@ ghost use base.Fml.{ftrue};
 ghost use denote.RawPtr.{Ptr};
 ghost use Rattle.slot_arena.specs.Blocks.{block_held, block_lent, right_held};
 
-use primitives::Memory;
+use shared_types::Memory;
 use std::alloc::Allocator;
 use std::marker::{Model, PhantomData};
 use std::mem::{align_of, size_of};

@@ -5,7 +5,7 @@ ghost use Rattle.std.specs.Borrow.{sem};
 ghost use Rattle.slot_arena.specs.Rows.{IsFilled};
 
 use crate::chunk::{CHUNK, Chunk};
-use primitives::Memory;
+use shared_types::Memory;
 use std::alloc::Global;
 use std::marker::Model;
 

@@ -5,7 +5,7 @@ ghost use Rattle.std.specs.Prelude.{◌≡◌, ◌<◌};
 
 use es_grammar::{Strict, strict};
 use es_module_parser::outline;
-use primitives::Steps;
+use shared_types::Steps;
 use std::alloc::Global;
 use std::marker::Brand;
 use std::rt::Runtime;

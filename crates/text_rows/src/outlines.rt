@@ -1,8 +1,8 @@
 //! What a module text asks for.
 
 use es_module_parser::{Outline, OutlineFault, Request, outline};
-use primitives::Steps;
 use row_texts::Said;
+use shared_types::Steps;
 use std::alloc::Global;
 use std::sync::ledger::Ledger;
 

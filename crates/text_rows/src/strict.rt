@@ -2,8 +2,8 @@
 
 use es_grammar::{Strict, strict};
 use es_module_parser::outline;
-use primitives::Steps;
 use row_texts::Said;
+use shared_types::Steps;
 use std::alloc::Global;
 use std::sync::ledger::Ledger;
 

@@ -6,7 +6,7 @@ ghost use Rattle.module_graph.specs.Many.{requests_in, slot_in};
 ghost use Rattle.trace_graph.specs.Building.{AreLinked};
 
 use module_graph::{Graph, Module, Slot};
-use primitives::Memory;
+use shared_types::Memory;
 use std::alloc::Global;
 
 // A graph of modules, of which the last comes first, and their slots in trace order; their requests lead to the modules

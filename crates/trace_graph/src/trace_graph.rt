@@ -10,7 +10,7 @@ ghost use Rattle.trace_graph.specs.Building.{IsGraphOf};
 
 use crate::building::{linked, slots_at};
 use module_graph::{Graph, Module, ModuleView, Slot, View};
-use primitives::Memory;
+use shared_types::Memory;
 use std::alloc::Global;
 use std::marker::Model;
 

@@ -12,7 +12,7 @@ mod copies;
 
 pub use copies::{generation_spares, same_generation};
 use node_spec::{Cause, Reason};
-use primitives::Text;
+use shared_types::Text;
 use std::alloc::AllocError;
 use tree_spec::LimitName;
 

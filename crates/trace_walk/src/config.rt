@@ -4,7 +4,7 @@ ghost use Rattle.tree_spec.specs.declared.LimitName.TheVariants.{Entries};
 ghost use Rattle.tree_spec.specs.Limits.{limit_number};
 
 use condition_match::Conditions;
-use primitives::{Listed, Text};
+use shared_types::{Listed, Text};
 use std::marker::Model;
 use std::mem;
 use tree_model::Path;

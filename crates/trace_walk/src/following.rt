@@ -17,7 +17,7 @@ use crate::module::Module;
 use crate::referrer::Referrer;
 use crate::refusals::refusal;
 use crate::tables::Tables;
-use primitives::Text;
+use shared_types::Text;
 use std::alloc::Global;
 use trace_spec::{AskCause, TraceFault};
 use tree_spec::{LimitName, MOST_REQUESTS, MOST_SPECIFIER_BYTES};

@@ -1,6 +1,6 @@
 ghost use Rattle.std.specs.Prelude.{◌≡◌, IfOk};
 
-use primitives::Memory;
+use shared_types::Memory;
 use std::alloc::Global;
 use std::hash::{Hash, Hasher};
 use std::marker::Model;

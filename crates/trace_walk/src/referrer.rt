@@ -1,4 +1,4 @@
-use primitives::Text;
+use shared_types::Text;
 use tree_model::Path;
 use web_url::WebUrl;
 

@@ -8,7 +8,7 @@ use crate::module::Module;
 use crate::referrer::Referrer;
 use crate::spelling::Spelling;
 use module_sources::NoSource;
-use primitives::{Memory, Text};
+use shared_types::{Memory, Text};
 use std::alloc::Global;
 use trace_spec::{AskCause, TraceFault};
 use tree_model::Path;

@@ -2,7 +2,7 @@ ghost use Rattle.std.specs.Prelude.{◌≡◌, length, slice_get, option_copied}
 ghost use Rattle.trace_walk.specs.Shown.{specifiers_of};
 
 use es_module_parser::Requests;
-use primitives::Text;
+use shared_types::Text;
 
 /// What a referrer asks for, in order.
 #[derive(Clone, Copy)]

@@ -3,7 +3,7 @@ ghost use Rattle.tree_spec.specs.declared.LimitName.TheVariants as limit;
 ghost use Rattle.tree_spec.specs.Limits.{limit_number};
 
 use crate::module::Module;
-use primitives::Text;
+use shared_types::Text;
 use std::marker::Model;
 
 /// How a need is first spelled: who asks, as shown to a user, the specifier, which isn't too long, and the module that

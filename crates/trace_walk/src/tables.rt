@@ -23,7 +23,7 @@ use crate::spelling::Spelling;
 use indexmap::IndexMap;
 use module_sources::Source;
 use need_table::{Added, Need, NeedFault, Needs};
-use primitives::{Memory, Text};
+use shared_types::{Memory, Text};
 use std::alloc::Global;
 use trace_spec::{AskCause, TraceFault};
 use tree_spec::{LimitName, MOST_MODULES};

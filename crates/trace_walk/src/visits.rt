@@ -24,7 +24,7 @@ use crate::refusals::{no_source, shown, shown_target};
 use crate::specifiers::Specifiers;
 use crate::tables::{Name, Tables};
 use module_sources::Source;
-use primitives::{Memory, Text};
+use shared_types::{Memory, Text};
 use std::alloc::Global;
 use std::rc::Rc;
 use trace_spec::TraceFault;

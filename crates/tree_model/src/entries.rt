@@ -6,7 +6,7 @@ ghost use Rattle.tree_spec.specs.Looks.{IsLook};
 ghost use Rattle.tree_model.specs.Entries.{tree_of, IsSettled, IsPlaced, IsPutNew, IsPutFile};
 
 use crate::Path;
-use primitives::{Bytes, Memory};
+use shared_types::{Bytes, Memory};
 use std::alloc::Global;
 use std::collections::BTreeMap;
 use tree_spec::{Entry, Look};

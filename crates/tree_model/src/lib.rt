@@ -15,7 +15,7 @@ pub use mem_folder::MemFolder;
 pub use mem_sink::MemSink;
 pub use mem_source::MemSource;
 pub use path::{Path, PathFault};
-pub use primitives::{Bytes, Listed, Memory};
+pub use shared_types::{Bytes, Listed, Memory};
 pub use stream::{Failed, Sink, Source};
 pub use tree_spec::{LimitName, Look, LookFault};
 

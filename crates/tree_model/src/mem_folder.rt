@@ -6,7 +6,7 @@ ghost use Rattle.tree_model.specs.Entries.{tree_of, entry_for, file_of};
 use crate::entries::{Entries, entry_at, look_in, put_file, put_new, start};
 use crate::numbers::is_listed;
 use crate::{Failed, Folder, Path};
-use primitives::{Bytes, Listed, Memory};
+use shared_types::{Bytes, Listed, Memory};
 use std::alloc::Global;
 use tree_spec::{Entry, Look, LookFault};
 

@@ -3,7 +3,7 @@ ghost use Rattle.tree_model.specs.Streams.{IsEmptySink, IsGiveOf};
 
 use crate::numbers::is_listed;
 use crate::{Failed, Sink};
-use primitives::{Listed, Memory};
+use shared_types::{Listed, Memory};
 use std::alloc::Global;
 
 /// A sink that keeps its bytes in memory, of which the calls with given numbers fail. They are numbered from 1.

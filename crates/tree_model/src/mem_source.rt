@@ -3,7 +3,7 @@ ghost use Rattle.tree_model.specs.Filling.{IsFilled};
 
 use crate::numbers::is_listed;
 use crate::{Failed, Source};
-use primitives::{Bytes, Listed, Memory};
+use shared_types::{Bytes, Listed, Memory};
 use std::alloc::Global;
 
 /// A source over bytes in memory, of which the calls with given numbers fail. They are numbered from 1.

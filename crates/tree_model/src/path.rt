@@ -3,7 +3,7 @@ ghost use Rattle.tree_spec.specs.Paths.{IsSegment, IsPath, IsParent, joined};
 ghost use Rattle.std.specs.String.{string_bytes};
 ghost use Rattle.tree_model.specs.Below.{IsBelow};
 
-use primitives::{Memory, Text};
+use shared_types::{Memory, Text};
 use std::alloc::Global;
 use std::marker::Model;
 

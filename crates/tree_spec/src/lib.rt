@@ -15,7 +15,7 @@ pub use limits::{
     MOST_MAP_BYTES, MOST_MODULE_REQUESTS, MOST_MODULES, MOST_REQUESTS, MOST_SESSION_BYTES,
     MOST_SPECIFIER_BYTES,
 };
-use primitives::Bytes;
+use shared_types::Bytes;
 use std::alloc::AllocError;
 
 /// What stands at a path of a tree.

@@ -11,7 +11,7 @@ ghost use Rattle.vendor_spec.specs.Goals.{goal_of};
 
 use crate::planning::{VendorFault, is_source};
 use package_lookup::Known;
-use primitives::Memory;
+use shared_types::Memory;
 use std::alloc::Global;
 use std::collections::BTreeMap;
 use tree_model::{Path, PathFault};

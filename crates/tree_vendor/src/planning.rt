@@ -4,7 +4,7 @@ ghost use Rattle.tree_vendor.specs.Planning.{Plans, InOrder, IsOfBytes, AreOfByt
 use crate::copying::file_of;
 use crate::goals::{Goals, goal_length, goals};
 use package_lookup::Known;
-use primitives::{Listed, Memory};
+use shared_types::{Listed, Memory};
 use std::alloc::Global;
 use tree_model::Path;
 use vendor_spec::MOST_PATH_BYTES;

@@ -4,7 +4,7 @@ ghost use Rattle.url.specs.Parts.{has_credentials};
 ghost use Rattle.url_spec.specs.Bases.{base_of, names_web_folder, IsBase};
 
 use crate::url_text;
-use primitives::{Memory, Text};
+use shared_types::{Memory, Text};
 use std::alloc::Global;
 use std::marker::Model;
 use url::Url;

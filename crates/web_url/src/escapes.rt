@@ -9,7 +9,7 @@ ghost use Rattle.url_spec.specs.ServedPaths.{holds_escape, read_segment, segment
 use percent_encoding::{
     AsciiSet, NON_ALPHANUMERIC, ascii_set, percent_decode, utf8_percent_encode,
 };
-use primitives::Memory;
+use shared_types::Memory;
 use std::alloc::Global;
 
 /// The bytes that a path's URL has as escapes.

@@ -9,7 +9,7 @@ use crate::escapes::push_escaped;
 use crate::paths::{escapes_separator, named_path};
 use crate::suffix::Suffix;
 use crate::url_text;
-use primitives::{Memory, Text};
+use shared_types::{Memory, Text};
 use std::alloc::{AllocError, Global};
 use std::marker::Model;
 use tree_model::Path;

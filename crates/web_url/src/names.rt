@@ -12,7 +12,7 @@ use crate::escapes::{holds_escape, push_escaped, split_suffix, unescape_segments
 use crate::paths::path_of;
 use crate::suffix::Suffix;
 use crate::web_url::WebUrl;
-use primitives::Memory;
+use shared_types::Memory;
 use std::alloc::{AllocError, Global};
 use tree_model::Path;
 

@@ -6,7 +6,7 @@ ghost use Rattle.url_spec.specs.ServedPaths.{read_segment};
 ghost use Rattle.url_spec.specs.FileUrls.{spelled_path, escapes_separator, NamesPath};
 
 use crate::escapes::{holds_escape, push_segment};
-use primitives::Memory;
+use shared_types::Memory;
 use std::alloc::{AllocError, Global};
 use tree_model::{Path, PathFault};
 

@@ -5,7 +5,7 @@ ghost use Rattle.url_spec.specs.Specifiers.{is_relative, as_url, ends_in_slash, 
 ghost use Rattle.web_url.specs.Asking.{IsAsked, IsAskFault, scheme_named};
 
 use crate::web_url::WebUrl;
-use primitives::{Memory, Text};
+use shared_types::{Memory, Text};
 use std::alloc::{AllocError, Global};
 
 /// What a specifier asks for.

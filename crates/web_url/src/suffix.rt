@@ -3,7 +3,7 @@ ghost use Rattle.url_spec.specs.Suffixes.{suffix_of};
 ghost use Rattle.web_url.specs.Suffixes.{IsSuffix};
 
 use crate::escapes::{is_suffix_mark, split_suffix};
-use primitives::{Memory, Text};
+use shared_types::{Memory, Text};
 use std::alloc::Global;
 use std::marker::Model;
 

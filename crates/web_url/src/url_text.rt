@@ -3,7 +3,7 @@ ghost use Rattle.std.specs.Prelude.{◌≡◌, None, Some, IfOk, IfSome, MatchOp
 ghost use Rattle.url_spec.specs.Parsing.{text_of, parse_alone, parse_against};
 ghost use Rattle.web_url.specs.Written.{IsWritten, IsParsed};
 
-use primitives::Memory;
+use shared_types::Memory;
 use std::alloc::{AllocError, Global};
 use url::{ParseError, Url};
 

@@ -4,7 +4,7 @@ ghost use Rattle.url_spec.specs.Schemes.{has_special_scheme, url_scheme};
 ghost use Rattle.web_url.specs.Written.{IsParsedAs, IsTextOf};
 
 use crate::url_text;
-use primitives::{Memory, Text};
+use shared_types::{Memory, Text};
 use std::alloc::Global;
 use std::cmp::Ordering;
 use std::hash::{Hash, Hasher};

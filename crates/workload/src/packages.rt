@@ -4,7 +4,7 @@ ghost use Rattle.workload_spec.specs.Packages.{package_path};
 ghost use Rattle.workload.specs.Putting.{ArePut, IsPut, IsWorkload};
 
 use crate::put::put;
-use primitives::Memory;
+use shared_types::Memory;
 use std::alloc::Global;
 use tree_model::MemFolder;
 

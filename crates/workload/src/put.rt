@@ -2,7 +2,7 @@ ghost use Rattle.std.specs.Prelude.{OnOk};
 ghost use Rattle.tree_spec.specs.Paths.{IsPath};
 ghost use Rattle.workload.specs.Putting.{IsPut};
 
-use primitives::Memory;
+use shared_types::Memory;
 use std::alloc::{AllocError, Global};
 use tree_model::{Folder, MemFolder, Path, PathFault};
 

@@ -1,6 +1,6 @@
 use Rattle.std.proofs.Common.{sym}
 use Rattle.ordered_json.specs.Lists.{pairs_of}
-use Rattle.primitives.proofs.ListSteps.{drop_at}
+use Rattle.shared_types.proofs.ListSteps.{drop_at}
 use Rattle.condition_match.proofs.choice.member_at.Goals as goal
 
 pub returns : goal.returns

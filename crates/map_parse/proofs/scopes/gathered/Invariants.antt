@@ -1,7 +1,7 @@
 use Rattle.std.proofs.Common.{◌≡◌, drop}
 use Rattle.std.specs.FinMap.{empty}
 use Rattle.import_map_spec.specs.Parsing.{scopes_onto}
-use Rattle.property_order.specs.Lent.{lent}
+use Rattle.ordered_json.specs.Lent.{lent}
 use Rattle.map_parse.proofs.scopes.gathered.Given as goal
 
 -- what is left, put onto what is there, gives the whole

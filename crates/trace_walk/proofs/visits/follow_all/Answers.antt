@@ -1,7 +1,7 @@
 use Rattle.std.proofs.Common.{◌≡◌, [], ◌+◌, length, drop, Ok, Some, sym, ap, ◌∙◌, subst, arith}
 use Rattle.std.proofs.lemmas.List.{drop_all}
 use Rattle.std.specs.Prelude.{slice_get, option_copied}
-use Rattle.primitives.proofs.ListSteps.{drop_at}
+use Rattle.shared_types.proofs.ListSteps.{drop_at}
 use Rattle.trace_spec.specs.Walking.{followed}
 use Rattle.trace_spec.specs.Checks.{rules, follows}
 use Rattle.trace_walk.specs.Meeting.{Met}

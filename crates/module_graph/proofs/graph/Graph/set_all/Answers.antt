@@ -3,7 +3,7 @@ use Rattle.std.specs.Prelude.{All}
 use Rattle.std.proofs.lemmas.List.{drop_all}
 use Rattle.std.proofs.lemmas.List.Elements.{All-head, All-drop}
 use Rattle.std.proofs.lemmas.Option.{slice_get_within}
-use Rattle.primitives.proofs.ListSteps.{drop_at}
+use Rattle.shared_types.proofs.ListSteps.{drop_at}
 use Rattle.module_graph.specs.Many.{SetsAll, slot_in}
 use Rattle.module_graph.proofs.Many.{sets_none, sets_one, still_live}
 use Rattle.module_graph.proofs.graph.Graph.set_all.Goals as goal

@@ -1,2 +1,0 @@
-pub mod IndexKeys
-pub mod OrderLemmas
