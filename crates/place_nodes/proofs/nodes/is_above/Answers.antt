@@ -1,5 +1,7 @@
-use Rattle.std.proofs.Common.{rules, sym}
+use Rattle.std.proofs.Common.{rules, ◌≡◌, sym, subst}
 use Rattle.std.proofs.lemmas.Bool.{true≢false}
+use Rattle.std.specs.Prelude.{IfOk}
+use Rattle.layout_spec.specs.Places.{is_folder}
 use Rattle.place_nodes.proofs.Walking.{not_front, not_whole, free_front, folder_found}
 use Rattle.place_nodes.proofs.nodes.is_above.Goals as goal
 
@@ -25,4 +27,5 @@ returns-then-is_none c =
 pub returns : goal.returns
 returns c =
     folder_found _ c.args.place.now c.args.node.now.place c.in-Some.rest.now c.is_folder.result (search rules) (search rules)
-    (search rules) c.is_folder.ensures
+    (search rules)
+    (subst (λ text. IfOk c.is_folder.result (λ is. is ≡ is_folder text)) c.as_str-higher.ensures c.is_folder.ensures)
