@@ -17,7 +17,7 @@ use Rattle.config_spec.specs.Projects.{project_path, IsConfigOf}
 use Rattle.config_spec.specs.Words.{command_of, IsCommandOf, VendorsTo}
 use Rattle.command_words.specs.Orders.{VendorsAt}
 use Rattle.project_spec.specs.ProjectFiles.{IsPagePath}
-use Rattle.session_spec.specs.SessionRuns.{refresh_words}
+use Rattle.session_spec.specs.Openings.{refresh_words}
 use Rattle.generation.specs.declared.stop.Stop.{Stop}
 use Rattle.generation.specs.declared.stop.Stop.TheVariants.{Refused, ReadFault, Memory}
 use Rattle.generator_spec.specs.declared.Refusal.{Refusal}

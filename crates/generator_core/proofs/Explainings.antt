@@ -25,7 +25,7 @@ use Rattle.config_spec.specs.declared.Command.TheVariants.{Refresh, Why}
 use Rattle.config_spec.specs.Projects.{IsConfigOf}
 use Rattle.config_spec.specs.Words.{AsksWhy, IsCommandOf}
 use Rattle.command_words.specs.Orders.{AsksWhyAt}
-use Rattle.session_spec.specs.SessionRuns.{refresh_words}
+use Rattle.session_spec.specs.Openings.{refresh_words}
 use Rattle.request_trace.specs.Showing.{Traced, Shows}
 use Rattle.generation.specs.declared.stop.Stop.{Stop}
 use Rattle.generation.specs.declared.stop.Stop.TheVariants.{Refused, ReadFault, Memory}

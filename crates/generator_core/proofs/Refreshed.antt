@@ -19,7 +19,7 @@ use Rattle.config_spec.specs.Projects.{config_by, CanRefuseConfig, Configures, H
 use Rattle.config_spec.specs.Projects.{RefusesAsked, RefusesConfig}
 use Rattle.config_spec.specs.Projects.RefusesAsked.{bad_project, no_project, no_base, too_many_entries, not_linked}
 use Rattle.config_spec.specs.Words.{command_of, IsCommandOf, no_settings, options_of, Sets, Settings}
-use Rattle.session_spec.specs.SessionRuns.{refresh_words}
+use Rattle.session_spec.specs.Openings.{refresh_words}
 use Rattle.generation.specs.declared.stop.Stop.{Stop}
 use Rattle.generator_spec.specs.Asked.{IsConfigAt}
 use Rattle.generator_core.specs.Configuring.{FindsConfig, StopsConfig, StopsConfig as stops_config}
