@@ -28,7 +28,7 @@ def layer(name):
 def need():
     """Ends the script where the program isn't there."""
     if not os.access(LAYERS, os.X_OK):
-        sys.exit("bench: there is no crates/layer_measure/out/layer_measure: run `rt run` in crates/layer_measure first")
+        sys.exit("bench: there is no program: run `rt run` in crates/layer_measure first")
 
 
 def say(passed, text):
