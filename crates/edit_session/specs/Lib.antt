@@ -1,4 +1,10 @@
+<<<<<<< ours
+=======
+pub mod EditLooks
+pub mod Agreement
+>>>>>>> theirs
 pub mod SessionTrees
+pub mod SessionParts
 pub mod NewLooks
 pub mod Sessions
 pub mod LooksOn

@@ -6,6 +6,8 @@
 mod changes;
 mod entries;
 mod files;
+mod looks;
+mod made;
 mod session;
 mod standing;
 mod stop;

@@ -4,6 +4,7 @@ ghost use Rattle.tree_spec.specs.declared.LimitName.TheVariants.{File};
 ghost use Rattle.session_spec.specs.SessionLines as lines;
 ghost use Rattle.session_input.specs.Cuts.{cut_of, cut_at, next_number};
 
+use memchr::memchr_iter;
 use tree_spec::MOST_FILE_BYTES;
 
 /// What stands behind a word, where the text begins with it.
@@ -103,16 +104,14 @@ fn next_number(front: usize, digit: u8) -> Option<usize>
 }
 
 /// How many lines end within bytes.
-#[tactic(auto, using(crate::proofs::CutLemmas::cutting))]
 pub(crate) fn line_ends(bytes: &[u8]) -> usize
     ensures ends { result ≡ lines.line_ends bytes.now }
     ensures most { result ≤ length bytes.now }
 {
     let mut ends = 0;
-    for byte in bytes {
-        if *byte == b'\n' {
-            ends += 1;
-        }
+    let mut found = memchr_iter(b'\n', bytes);
+    'places: while let Some(_) = found.next() {
+        ends += 1;
     }
     ends
 }

@@ -1,5 +1,5 @@
-use session_spec::Change;
 use shared_types::Memory;
+use session_spec::Change;
 
 /// What a line asks for.
 #[derive(Drop)]

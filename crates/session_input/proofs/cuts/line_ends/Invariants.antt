@@ -1,7 +1,9 @@
-use Rattle.std.proofs.Common.{◌≡◌, ◌≤◌}
-use Rattle.std.specs.Prelude.{take}
+use Rattle.std.proofs.Common.{◌≡◌, ◌≤◌, ◌+◌, length}
 use Rattle.session_spec.specs.SessionLines.{line_ends}
 use Rattle.session_input.proofs.cuts.line_ends.Given as goal
 
-abbrev pub invariant-loop-byte : goal.invariant-loop-byte
-invariant-loop-byte l = (l.ends ≤ l.byte-index) × (l.ends ≡ line_ends (take l.byte-index l.bytes))
+abbrev pub invariant-places : goal.invariant-places
+invariant-places l = (l.ends + length l.found ≡ line_ends l.bytes) × (line_ends l.bytes ≤ length l.bytes)
+
+abbrev pub decreases-places : goal.decreases-places
+decreases-places l = length l.found
