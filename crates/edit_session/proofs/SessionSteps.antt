@@ -23,13 +23,8 @@ use Rattle.session_spec.specs.Replies.{accepted_line}
 use Rattle.session_spec.specs.SessionStates.{SessionState, draft_of, config_with, IsGenerated}
 use Rattle.edit_session.specs.LooksOn.{LooksOn}
 use Rattle.edit_session.specs.Making.{Work, work, IsDraftOf, LeavesDraft}
-<<<<<<< ours
-use Rattle.edit_session.specs.SessionTrees.{IsSessionOf, counts_in}
-use Rattle.edit_session.specs.Sessions.{StopsEdit, CanStopEdit}
-=======
 use Rattle.edit_session.specs.SessionTrees.{counts_in}
-use Rattle.edit_session.specs.Sessions.{StopsEdit, CanStopEdit, IsEditLook, of_change, of_generation}
->>>>>>> theirs
+use Rattle.edit_session.specs.Sessions.{StopsEdit, CanStopEdit}
 use Rattle.edit_session.specs.Steps.{LeadsTo, CanLackMap, IsAsBefore, GeneratesNext, MakesNext}
 use Rattle.edit_session.specs.Stopping.{stop_by, stop_for}
 use Rattle.edit_session.specs.Trying.{TriesMap}

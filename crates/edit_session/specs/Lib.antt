@@ -1,8 +1,4 @@
-<<<<<<< ours
-=======
-pub mod EditLooks
 pub mod Agreement
->>>>>>> theirs
 pub mod SessionTrees
 pub mod SessionParts
 pub mod NewLooks

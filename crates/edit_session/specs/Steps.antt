@@ -23,13 +23,8 @@ use Rattle.session_spec.specs.EditLooks.{IsEditLook}
 use Rattle.session_spec.specs.Replies.{IsAccepted}
 use Rattle.session_spec.specs.SessionStates.{SessionState, config_with, IsGenerated}
 use Rattle.edit_session.specs.LooksOn.{LooksOn}
-<<<<<<< ours
 use Rattle.edit_session.specs.Sessions.{StopsEdit, CanStopEdit}
-use Rattle.edit_session.specs.SessionTrees.{IsSessionOf, IsStateOf, counts_in}
-=======
-use Rattle.edit_session.specs.Sessions.{IsEditLook, StopsEdit, CanStopEdit}
 use Rattle.edit_session.specs.SessionTrees.{IsStateOf, counts_in}
->>>>>>> theirs
 use Rattle.edit_session.specs.Trying.{IfLaid}
 use Rattle.edit_session.specs.SessionParts.{Parts, IsPartsOf}
 use Rattle.edit_session.specs.declared.session.Pending.{Pending}

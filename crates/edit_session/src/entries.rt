@@ -11,9 +11,9 @@ ghost use Rattle.edit_session.specs.declared.stop.ChangeStop.TheVariants.{Refuse
 ghost use Rattle.edit_session.specs.Making.{as_draft, IsListOfEntries, IsMadeOf};
 
 use crate::stop::ChangeStop;
-use shared_types::{Listed, Memory, Text};
 use request_trace::Config;
 use session_spec::EditFault;
+use shared_types::{Listed, Memory, Text};
 use std::alloc::Global;
 use std::marker::Model;
 use std::mem;

@@ -3,8 +3,8 @@ ghost use Rattle.edit_session.specs.Stopping.{stop_by, stop_for, stop_of};
 
 use generation::Stop;
 use generator_spec::Refusal;
-use shared_types::Memory;
 use session_spec::EditFault;
+use shared_types::Memory;
 use tree_spec::LookFault;
 
 /// Why an edit isn't prepared.

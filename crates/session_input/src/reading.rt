@@ -1,5 +1,5 @@
-use shared_types::Memory;
 use session_spec::Change;
+use shared_types::Memory;
 
 /// What a line asks for.
 #[derive(Drop)]
