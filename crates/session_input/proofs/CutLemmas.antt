@@ -2,13 +2,8 @@
 use Rattle.std.proofs.Common.{◌≡◌, ◌≢◌, ◌≤◌, ◌<◌, ◌==◌, ◌+◌, ◌-◌, ◌++◌, ◌∷◌, [], ℕ, List, length, get_or, Bool, true, false, Option, Some, None, refl, sym, ap, ◌∙◌, arith}
 use Rattle.std.proofs.lemmas.Bool.{eq-eqb, ne_eqb}
 use Rattle.std.proofs.lemmas.List.{append-nil, take-append-drop, take_more, drop_more, drop_all, take_all, length-take-le, drop-drop}
-use Rattle.std.proofs.lemmas.List.Recursion.{is_count_by}
-use Rattle.std.proofs.lemmas.List.Sums.{count_by-le-length}
 use Rattle.std.proofs.Math.Seq.{take-append-add}
-use Rattle.std.specs.Prelude.{take, drop, option_map, cond, if◌then◌else◌}
-use Rattle.std.specs.List.{count_by}
-use Rattle.memchr.specs.Find.{is_byte, places}
-use Rattle.memchr.proofs.lemmas.CallerLemmas.{length-places}
+use Rattle.std.specs.Prelude.{take, drop, option_map, if◌then◌else◌}
 use Rattle.session_spec.specs.SessionLines.{Cut, with_front, cut_here, cut_first, cut_last, first_of_two, line_ends}
 use Rattle.session_input.specs.Cuts.{cut_at}
 
@@ -122,17 +117,49 @@ found_behind unread rest searched at within seen is found =
 
 -- ---- the ends of lines
 
-end_or_not : (here : Bool) (ends : ℕ) → (if here then 1 else 0) + ends ≡ cond here (1 + ends) ends
-end_or_not true ends = refl
-end_or_not false ends = omega arith
+pub line_ends-append : (front back : List ℕ) → line_ends (front ++ back) ≡ line_ends front + line_ends back
+line_ends-append [] back = omega arith
+line_ends-append (x ∷ front) back =
+    let ih = line_ends-append front back in
+    let here = if x == 10 then 1 else 0 in
+    let first : line_ends (x ∷ (front ++ back)) ≡ here + line_ends (front ++ back) = refl in
+    let second : line_ends (x ∷ front) ≡ here + line_ends front = refl in
+    omega (arith, ih, first, second)
 
-count_ends : (text : List ℕ) → line_ends text ≡ count_by (is_byte 10) text
-count_ends = is_count_by line_ends (is_byte 10) refl (λ x text. end_or_not (x == 10) (line_ends text))
+one_end : (x : ℕ) → x ≡ 10 → line_ends (x ∷ []) ≡ 1
+one_end x e = ap (λ (here : Bool). (if here then 1 else 0) + 0) (eq-eqb x 10 e)
 
-pub ends_found : (text : List ℕ) → 0 + length (places (is_byte 10) text) ≡ line_ends text
-ends_found text = length-places (is_byte 10) text ∙ sym (count_ends text)
+no_end : (x : ℕ) → x ≢ 10 → line_ends (x ∷ []) ≡ 0
+no_end x e = ap (λ (here : Bool). (if here then 1 else 0) + 0) (ne_eqb x 10 e)
+
+pub ends_more : (text : List ℕ) (at : ℕ) → at < length text → get_or text at 0 ≡ 10 → line_ends (take (at + 1) text) ≡ line_ends (take at text) + 1
+ends_more text at less e =
+    let x = get_or text at 0 in
+    ap line_ends (take_more text at 0 less) ∙ line_ends-append (take at text) (x ∷ []) ∙ ap (λ (n : ℕ). line_ends (take at text) + n) (one_end x e)
+
+pub ends_same : (text : List ℕ) (at : ℕ) → at < length text → get_or text at 0 ≢ 10 → line_ends (take (at + 1) text) ≡ line_ends (take at text)
+ends_same text at less e =
+    let x = get_or text at 0 in
+    let more = ap line_ends (take_more text at 0 less) ∙ line_ends-append (take at text) (x ∷ []) in
+    let none = no_end x e in
+    omega (arith, more, none)
+
+-- a piece more is counted
+pub ends_on : (all piece more : List ℕ) (ends few : ℕ) → few ≡ line_ends piece → (line_ends (piece ++ more) + ends ≡ line_ends all)
+    → line_ends more + (ends + few) ≡ line_ends all
+ends_on all piece more ends few same whole = let both = line_ends-append piece more in omega (arith, same, whole, both)
+
+one_or_none : (here : Bool) → (if here then 1 else 0) ≤ 1
+one_or_none true = omega arith
+one_or_none false = omega arith
 
 pub few_ends : (text : List ℕ) → line_ends text ≤ length text
-few_ends text = let same = count_ends text in let le = count_by-le-length (is_byte 10) text in omega (arith, same, le)
+few_ends [] = omega arith
+few_ends (x ∷ text) =
+    let ih = few_ends text in
+    let one = one_or_none (x == 10) in
+    omega (arith, ih, one)
 
-pub ruleset cutting = (first_more, first_at, first_none, last_none_more, last_at, last_none)
+pub ruleset cutting = (first_more, first_at, first_none, last_none_more, last_at, last_none, ends_more, ends_same)
+
+pub ruleset counting = (ends_on, few_ends)
