@@ -1,5 +1,5 @@
 -- A command over a tree has one outcome.
-use Rattle.std.proofs.Common.{◌≡◌, ◌⊎◌, ℕ, List, [], ◌∷◌, length, Some, Result, Ok, Err, codes, refl, sym, ap, ◌∙◌, subst, inl, inr, arith, ◌≢◌, None}
+use Rattle.std.proofs.Common.{◌≡◌, ◌⊎◌, ℕ, List, [], ◌∷◌, length, Option, Some, Result, Ok, Err, codes, refl, sym, ap, ◌∙◌, subst, inl, inr, arith, ◌≢◌, None}
 use Rattle.std.specs.Prelude.{All, ◌++◌}
 use Rattle.std.proofs.lemmas.List.Elements.{All-nil, All-cons, All-head, All-tail}
 use Rattle.std.specs.FinMap.{get, insert}
