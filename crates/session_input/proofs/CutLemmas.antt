@@ -145,9 +145,11 @@ ends_same text at less e =
     omega (arith, more, none)
 
 -- a piece more is counted
-pub ends_on : (all piece more : List ℕ) (ends few : ℕ) → few ≡ line_ends piece → (line_ends (piece ++ more) + ends ≡ line_ends all)
-    → line_ends more + (ends + few) ≡ line_ends all
-ends_on all piece more ends few same whole = let both = line_ends-append piece more in omega (arith, same, whole, both)
+pub ends_on : (all rest piece more : List ℕ) (ends few : ℕ) → rest ≡ piece ++ more → few ≡ line_ends piece
+    → line_ends rest + ends ≡ line_ends all → line_ends more + (ends + few) ≡ line_ends all
+ends_on all rest piece more ends few is same whole =
+    let both = ap line_ends is ∙ line_ends-append piece more in
+    omega (arith, same, whole, both)
 
 one_or_none : (here : Bool) → (if here then 1 else 0) ≤ 1
 one_or_none true = omega arith
@@ -162,4 +164,4 @@ few_ends (x ∷ text) =
 
 pub ruleset cutting = (first_more, first_at, first_none, last_none_more, last_at, last_none, ends_more, ends_same)
 
-pub ruleset counting = (ends_on, few_ends)
+pub ruleset counting = (few_ends)
