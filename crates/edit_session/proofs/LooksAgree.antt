@@ -1,5 +1,5 @@
 -- Looks that are those that are laid but at some paths.
-use Rattle.std.proofs.Common.{◌≡◌, ◌∷◌, ◌++◌, ◌||◌, [], ℕ, Bool, true, false, List, Option, Some, Result, Ok, Err, refl, sym, ap, ◌∙◌}
+use Rattle.std.proofs.Common.{◌≡◌, ◌∷◌, ◌++◌, ◌||◌, [], ℕ, Bool, true, false, List, Option, Some, None, Result, Ok, Err, refl, sym, ap, ◌∙◌}
 use Rattle.std.specs.Prelude.{bytes_eq, length, cond, OnOk, OnErr}
 use Rattle.std.specs.List.{list_any}
 use Rattle.std.proofs.lemmas.Cmp.{nat_list_eq_equiv}
@@ -87,3 +87,8 @@ pub agrees_set : {E : Type 0} (path : List ℕ) (changed : List (List ℕ)) (lai
 agrees_set path changed laid over next look (Ok done) puts same agree = agrees_put path changed laid over agree look next puts
 agrees_set path changed laid over next look (Err lack) puts same agree =
     agrees_same (changed ++ path ∷ []) laid over next same (agrees_but_one path changed laid over agree)
+
+-- looks that lay nothing
+pub agrees_none : (changed : List (List ℕ)) (laid over : Over) → ((path : List ℕ) → over_at laid path ≡ None)
+    → ((path : List ℕ) → over_at over path ≡ None) → AgreeBut changed laid over
+agrees_none changed laid over none_laid none_over = λ at none. none_over at ∙ sym (none_laid at)
