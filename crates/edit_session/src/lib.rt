@@ -10,6 +10,7 @@ mod looks;
 mod made;
 mod session;
 mod standing;
+mod steps;
 mod stop;
 mod trying;
 

@@ -1,7 +1,7 @@
 use Rattle.std.proofs.Common.{refl}
 use Rattle.edit_session.specs.SessionParts.{parts, result_over}
 use Rattle.edit_session.proofs.SessionSteps.{no_change, made_next}
-use Rattle.edit_session.proofs.session.make.Goals as goal
+use Rattle.edit_session.proofs.steps.make.Goals as goal
 
 pub returns-in-Err-clause-makes : goal.returns-in-Err-clause-makes
 returns-in-Err-clause-makes g c generated =

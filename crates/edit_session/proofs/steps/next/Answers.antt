@@ -1,6 +1,6 @@
 use Rattle.edit_session.specs.SessionParts.{parts}
 use Rattle.edit_session.proofs.SessionSteps.{lacks_next}
-use Rattle.edit_session.proofs.session.next.Goals as goal
+use Rattle.edit_session.proofs.steps.next.Goals as goal
 
 pub returns-in-Err-clause-makes : goal.returns-in-Err-clause-makes
 returns-in-Err-clause-makes g c generated =

@@ -1,7 +1,7 @@
 use Rattle.std.proofs.Common.{refl}
 use Rattle.edit_session.specs.SessionParts.{parts, pending_over}
 use Rattle.edit_session.proofs.SessionSteps.{no_next, has_next}
-use Rattle.edit_session.proofs.session.generate.Goals as goal
+use Rattle.edit_session.proofs.steps.generate.Goals as goal
 
 pub returns-in-Err-clause-generates : goal.returns-in-Err-clause-generates
 returns-in-Err-clause-generates g c generated =
