@@ -1,6 +1,6 @@
-ghost use Rattle.std.specs.Prelude.{◌≡◌, None, Some, true, is_some, IfSome};
+ghost use Rattle.std.specs.Prelude.{◌≡◌, None, Some, true, is_some};
 ghost use Rattle.request_trace.specs.Tracing.{TakesSteps};
-ghost use Rattle.edit_session.specs.Agreement.{AgreeBut};
+ghost use Rattle.edit_session.specs.Agreement.{AgreeBut, next_over};
 
 use crate::entries::Entries;
 use crate::looks::Looks;
@@ -40,8 +40,7 @@ pub struct Session {
     // that are laid.
     spare: Over,
     changed: Vec<Path>,
-    ghost spared: { pending ≡ None → AgreeBut changed.items known.laid spare },
-    ghost prepared: { IfSome pending (λ p. AgreeBut changed.items known.laid p.over) },
+    ghost agree: { AgreeBut changed.items known.laid (next_over spare pending) },
 }
 
 /// What an edit makes of a session: other looks that are laid, other entries, and the map for them.
