@@ -1,5 +1,5 @@
 -- Looks that are those that are laid but at some paths.
-use Rattle.std.proofs.Common.{◌≡◌, ◌∷◌, ◌++◌, ◌||◌, [], ℕ, Bool, true, false, List, Option, Some, None, Result, Ok, Err, refl, sym, ap, ◌∙◌}
+use Rattle.std.proofs.Common.{◌≡◌, ◌∷◌, ◌++◌, ◌||◌, [], ℕ, Bool, true, false, List, Option, Some, Result, Ok, Err, refl, sym, ap, ◌∙◌}
 use Rattle.std.specs.Prelude.{bytes_eq, length, cond, OnOk, OnErr}
 use Rattle.std.specs.List.{list_any}
 use Rattle.std.proofs.lemmas.Cmp.{nat_list_eq_equiv}
@@ -15,8 +15,8 @@ turned path other = nat_list_eq_equiv.symm path other
 -- what stands there after one look more follows
 followed : (same : Bool) (here there was : Option Look) → (same ≡ true → here ≡ there) → (same ≡ false → was ≡ there)
     → cond same here was ≡ there
-followed true here there was yes no = yes refl
-followed false here there was yes no = no refl
+followed true here there was same other = same refl
+followed false here there was same other = other refl
 
 or_none : (a b : Bool) → (a || b) ≡ false → (a ≡ false) × (b ≡ false)
 or_none true b e = absurd (cc)
@@ -87,8 +87,3 @@ pub agrees_set : {E : Type 0} (path : List ℕ) (changed : List (List ℕ)) (lai
 agrees_set path changed laid over next look (Ok done) puts same agree = agrees_put path changed laid over agree look next puts
 agrees_set path changed laid over next look (Err lack) puts same agree =
     agrees_same (changed ++ path ∷ []) laid over next same (agrees_but_one path changed laid over agree)
-
--- looks that lay nothing
-pub agrees_none : (changed : List (List ℕ)) (laid over : Over) → ((path : List ℕ) → over_at laid path ≡ None)
-    → ((path : List ℕ) → over_at over path ≡ None) → AgreeBut changed laid over
-agrees_none changed laid over none_laid none_over = λ at none. none_over at ∙ sym (none_laid at)

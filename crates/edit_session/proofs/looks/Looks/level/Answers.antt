@@ -3,11 +3,5 @@ use Rattle.edit_session.proofs.looks.Looks.level.Goals as goal
 pub make_level-requires : goal.make_level-requires
 make_level-requires c = rw (c.laid.ensures, c.as_slice.ensures.value) c.args.self.now.agree
 
-pub invariant_of-self-clause-agree : goal.invariant_of-self-clause-agree
-invariant_of-self-clause-agree c = rw (c.laid.ensures, c.as_slice.ensures.value) at c.make_level.ensures.agree
-
-pub invariant_of-self-2-clause-agree : goal.invariant_of-self-2-clause-agree
-invariant_of-self-2-clause-agree c = λ path none. (rw c.laid.ensures at c.in_ok-make_level.ensures.level) path
-
 pub returns-clause-level : goal.returns-clause-level
 returns-clause-level c = λ path. (rw c.laid.ensures at c.in_ok-make_level.ensures.level) path
