@@ -63,10 +63,10 @@ module _ (path : List ℕ) (changed : List (List ℕ)) (laid over : Over) (agree
       → (list_any (bytes_eq at) changed ≡ false) × (bytes_eq at path ≡ false)
   both_none at none = both_of (bytes_eq at) changed path none
 
-  pub agrees_but_one : AgreeBut (changed ++ path ∷ []) laid over
+  agrees_but_one : AgreeBut (changed ++ path ∷ []) laid over
   agrees_but_one = λ at none. agree at ((both_none at none).0)
 
-  pub agrees_put : (look : Look) (next : Over) → Puts over path look next → AgreeBut (changed ++ path ∷ []) laid next
+  agrees_put : (look : Look) (next : Over) → Puts over path look next → AgreeBut (changed ++ path ∷ []) laid next
   agrees_put look next puts = λ at none.
       (let both = both_none at none in
       let other : bytes_eq path at ≡ false = turned path at ∙ both.1 in
@@ -76,9 +76,6 @@ module _ (path : List ℕ) (changed : List (List ℕ)) (laid over : Over) (agree
 pub agrees_same : (changed : List (List ℕ)) (laid over next : Over) → ((path : List ℕ) → over_at next path ≡ over_at over path)
     → AgreeBut changed laid over → AgreeBut changed laid next
 agrees_same changed laid over next same agree = λ at none. same at ∙ agree at none
-
-pub agrees_back : (changed : List (List ℕ)) (laid over : Over) → AgreeBut changed laid over → AgreeBut changed over laid
-agrees_back changed laid over agree = λ at none. sym (agree at none)
 
 -- whatever comes of a look that is put there
 pub agrees_set : {E : Type 0} (path : List ℕ) (changed : List (List ℕ)) (laid over next : Over) (look : Look) (result : Result (Unit {0}) E)
