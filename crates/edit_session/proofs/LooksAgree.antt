@@ -1,5 +1,6 @@
 -- Looks that are those that are laid but at some paths.
-use Rattle.std.proofs.Common.{◌≡◌, ◌∷◌, ◌++◌, ◌||◌, [], ℕ, Bool, true, false, List, Option, Some, Result, Ok, Err, refl, sym, ap, ◌∙◌}
+use Rattle.std.proofs.Common.{◌≡◌, ◌∷◌, ◌++◌, ◌||◌, [], ℕ, Bool, true, false, List, Option, Some, Result, Ok, Err}
+use Rattle.std.proofs.Common.{refl, ap, ◌∙◌}
 use Rattle.std.specs.Prelude.{bytes_eq, length, cond, OnOk, OnErr}
 use Rattle.std.specs.List.{list_any}
 use Rattle.std.proofs.lemmas.Cmp.{nat_list_eq_equiv}
@@ -40,13 +41,16 @@ module _ (laid over next : Over) (path : List ℕ) (follows : Follows over path 
 
   pub agrees_as_well : (changed : List (List ℕ)) → AgreeBut changed laid over → AgreeBut changed laid next
   agrees_as_well changed agree = λ at none.
-      follows at ∙ followed (bytes_eq path at) (over_at laid path) (over_at laid at) (over_at over at) (there_so at) (λ e. agree at none)
+      follows at
+      ∙ followed (bytes_eq path at) (over_at laid path) (over_at laid at) (over_at over at) (there_so at)
+      (λ e. agree at none)
 
   one_less : (at : List ℕ) (more : List (List ℕ)) → bytes_eq path at ≡ false → list_any (bytes_eq at) more ≡ false
       → list_any (bytes_eq at) (path ∷ more) ≡ false
   one_less at more e none = or_both (bytes_eq at path) (list_any (bytes_eq at) more) (turned at path ∙ e) none
 
-  pub agrees_there : (rest more : List (List ℕ)) → rest ≡ path ∷ more → AgreeBut rest laid over → AgreeBut more laid next
+  pub agrees_there : (rest more : List (List ℕ)) → rest ≡ path ∷ more → AgreeBut rest laid over
+      → AgreeBut more laid next
   agrees_there rest more is agree = λ at none.
       follows at
       ∙ followed (bytes_eq path at) (over_at laid path) (over_at laid at) (over_at over at) (there_so at)
@@ -73,14 +77,17 @@ module _ (path : List ℕ) (changed : List (List ℕ)) (laid over : Over) (agree
       puts at ∙ (ap (λ b. cond b (Some look) (over_at over at)) other ∙ agree at both.0))
 
 -- looks that are the same everywhere agree as well
-pub agrees_same : (changed : List (List ℕ)) (laid over next : Over) → ((path : List ℕ) → over_at next path ≡ over_at over path)
-    → AgreeBut changed laid over → AgreeBut changed laid next
+pub agrees_same : (changed : List (List ℕ)) (laid over next : Over)
+    → ((path : List ℕ) → over_at next path ≡ over_at over path) → AgreeBut changed laid over
+    → AgreeBut changed laid next
 agrees_same changed laid over next same agree = λ at none. same at ∙ agree at none
 
 -- whatever comes of a look that is put there
-pub agrees_set : {E : Type 0} (path : List ℕ) (changed : List (List ℕ)) (laid over next : Over) (look : Look) (result : Result (Unit {0}) E)
-    → OnOk result (Puts over path look next) → OnErr result ((at : List ℕ) → over_at next at ≡ over_at over at)
+pub agrees_set : {E : Type 0} (path : List ℕ) (changed : List (List ℕ)) (laid over next : Over) (look : Look)
+    (result : Result (Unit {0}) E) → OnOk result (Puts over path look next)
+    → OnErr result ((at : List ℕ) → over_at next at ≡ over_at over at)
     → AgreeBut changed laid over → AgreeBut (changed ++ path ∷ []) laid next
-agrees_set path changed laid over next look (Ok done) puts same agree = agrees_put path changed laid over agree look next puts
+agrees_set path changed laid over next look (Ok done) puts same agree =
+    agrees_put path changed laid over agree look next puts
 agrees_set path changed laid over next look (Err lack) puts same agree =
     agrees_same (changed ++ path ∷ []) laid over next same (agrees_but_one path changed laid over agree)
