@@ -28,7 +28,7 @@ returns-in-Err g c =
     let is = subst (λ r. PreparesCopies c.args.to.now c.args.config.now (g.F.Folder.state c.args.folder.now) r (g.F.Folder.state c.prepare_copies.new.folder))
     c.in-Err.is c.prepare_copies.ensures.prepares in
     record {
-      end = λ words asks is_config. copies_stop words c.args.to.now c.args.config.now _ _ _ _ _ asks is_config c.in-Err.stop is.stopped c.close.ensures.tells c.close.ensures.later;
+      end = λ words asks is_config. copies_stop words c.args.to.now c.args.config.now _ (g.F.Folder.state c.args.folder.now) _ _ _ _ asks is_config c.in-Err.stop is.stopped c.close.ensures.tells c.close.ensures.later;
       asked = is.asked;
       spends = record { told = λ none. absurd none; bounded = c.prepare_copies.ensures.bounded };
     }
