@@ -1,5 +1,5 @@
 -- How the files that a map needs come to be copied, step by step.
-use Rattle.std.proofs.Common.{◌≡◌, ◌≢◌, ◌≤◌, ◌<◌, ◌⊎◌, ◌+◌, ◌++◌, [], ◌∷◌, ℕ, List, length, map, take, Option, Some, None, Result, Ok, Err, IfSome, refl, sym, ap, ◌∙◌, subst, inl, inr, arith}
+use Rattle.std.proofs.Common.{◌≡◌, ◌≢◌, ◌≤◌, ◌<◌, ◌⊎◌, ◌++◌, [], ◌∷◌, ℕ, List, length, map, take, Option, Some, None, Result, Ok, Err, IfSome, refl, sym, ap, ◌∙◌, subst, inl, inr, arith}
 use Rattle.std.specs.FinMap.{get}
 use Rattle.std.specs.Prelude.{codes, option_map, Contains, true, false}
 use Rattle.tree_spec.proofs.ToldStates.{if_some, if_two, looks_as, looks_then}
@@ -38,7 +38,7 @@ use Rattle.generator_spec.specs.Vendoring.{copied_files, IsCopyRefusal as kinds,
 use Rattle.generator_spec.specs.declared.Refusal.{Refusal}
 use Rattle.generator_spec.specs.declared.Refusal.TheVariants.{Occupied, PathTooLong, TooManySegments}
 use Rattle.generator_core.specs.declared.vendoring.Copies.{Copies}
-use Rattle.generator_core.specs.Vendoring.{as_new, new_files, AreReady, AsksCopies, AsksCopies as asks, EndsCopies, IsFree}
+use Rattle.generator_core.specs.Vendoring.{as_new, new_files, AsksCopies, AsksCopies as asks, EndsCopies, IsFree}
 use Rattle.generator_core.specs.Vendoring.{IsReadyTo, PreparesCopies, RefusesHere, RefusesHere as here, StandsAt, StopsCopies, StopsCopies as stops, StopsPlan}
 use Rattle.generator_core.specs.Writing.{WritesFiles, WritesFiles as writes_files}
 use Rattle.generator_core.proofs.Preparings.{asks_few}

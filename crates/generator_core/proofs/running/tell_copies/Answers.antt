@@ -1,5 +1,4 @@
 use Rattle.std.proofs.Common.{subst}
-use Rattle.generator_spec.specs.Commands.{SaysCounts}
 use Rattle.generator_core.specs.Vendoring.{PreparesCopies}
 use Rattle.generator_core.proofs.CopiesTold.{copies_end, copies_stop, still_asked}
 use Rattle.generator_core.proofs.running.tell_copies.Goals as goal
