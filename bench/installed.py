@@ -69,6 +69,10 @@ class Site:
         self.put_module([specifier])
         return self.link().status == 0
 
+    def served(self):
+        """What each package may be asked for by, where a map comes of it alone."""
+        return [specifier for name in self.names() for specifier in self.specifiers(name) if self.has_map(specifier)]
+
     def read_paths(self):
         """The files whose digests stand in the map, and the records beside them."""
         with open(os.path.join(self.folder, "importmap.json"), encoding="utf-8") as file:
@@ -79,7 +83,7 @@ class Site:
 
 def measure(work):
     site = Site(os.path.join(work, "installed"))
-    asked = [specifier for name in site.names() for specifier in site.specifiers(name) if site.has_map(specifier)]
+    asked = site.served()
     site.put_module(asked)
     run = site.link(TRIES)
     if run.status != 0:
