@@ -1,80 +1,115 @@
-ghost use Rattle.std.specs.Prelude.{◌≡◌, IfOk};
+ghost use Rattle.std.specs.Prelude.{◌≡◌, ℕ, IfOk, OnOk, replicate};
 ghost use Rattle.layout.specs.Costs as definition;
+ghost use Rattle.layout.specs.Fits.{costs_by, costs_of, greatest_from, best_at, AtMost};
 
-use shared_types::{Listed, Memory};
+use crate::penalty::Penalties;
+use shared_types::Memory;
 use std::alloc::{AllocError, Global};
+use std::marker::Model;
+use std::mem;
 
-/// What each target costs a place.
-pub(crate) type Costs = Listed<usize>;
+/// What each target costs a place: the number of the places below that pay, less the number of them that it fits.
+///
+/// No list is made before one pays.
+#[derive(Drop)]
+pub(crate) struct Costs {
+    width: usize,
+    total: usize,
+    fits: Vec<usize>,
+}
 
-/// Both together.
-pub(crate) fn sum(alloc: Global, one: &Costs, other: &Costs) -> Result<Costs, Memory>
-    ensures { IfOk result (λ both. both ≡ definition.added one.now other.now) }
-{
-    let mut both = Costs::from_vec(Vec::with_capacity(alloc, one.len())?);
-    let mut left = one.as_slice();
-    let mut right = other.as_slice();
-    while let Some((cost, more)) = left.split_first() {
-        let Some((next, rest)) = right.split_first() else {
-            break;
-        };
-        let Some(together) = cost.checked_add(*next) else {
+impl Model for Costs {
+    ghost use Rattle.std.specs.Prelude.{List, ℕ};
+    ghost use Rattle.layout.specs.Fits.{costs_of, IsKept};
+
+    ghost Value = { List ℕ };
+
+    ghost view = { λ c. costs_of c.width c.total c.fits.items };
+
+    ghost invariant = { λ c. IsKept c.width c.total c.fits.items };
+}
+
+impl Costs {
+    /// No target costs anything.
+    pub(crate) fn free(alloc: Global, width: usize) -> Costs
+        ensures { result ≡ replicate width 0 }
+    {
+        Costs {
+            width,
+            total: 0,
+            fits: Vec::new(alloc),
+        }
+    }
+
+    /// A place below pays.
+    pub(crate) fn charge(&mut self, alloc: Global, row: &Penalties) -> Result<(), Memory>
+        ensures { OnOk result (self.new ≡ definition.added self.old row.now) }
+    {
+        let Some(total) = self.total.checked_add(1) else {
             return Err(AllocError);
         };
-        both.push(together)?;
-        left = more;
-        right = rest;
+        let fits = mem::replace(&mut self.fits, Vec::new(alloc));
+        let more = row.pay(opened(alloc, fits, self.width)?)?;
+        *self = Costs {
+            width: more.len(),
+            total,
+            fits: more,
+        };
+        Ok(())
     }
-    Ok(both)
+
+    /// The penalties of the targets, one of which may be the place's own.
+    pub(crate) fn penalties(self, alloc: Global, own: Option<usize>) -> Result<Penalties, Memory>
+        ensures { IfOk result (λ row. row ≡ definition.penalties own self) }
+    {
+        let Costs {
+            width,
+            total: _,
+            fits,
+        } = self;
+        match own {
+            Some(number) => Ok(Penalties::alone(alloc, width, number)),
+            None => {
+                let fits = opened(alloc, fits, width)?;
+                let best = best_of(alloc, fits.as_slice())?;
+                Ok(Penalties::of(best))
+            }
+        }
+    }
 }
 
-/// 0 for each target that fits and costs least, 1 for any other.
-pub(crate) fn penalties(alloc: Global, costs: &Costs, own: Option<usize>) -> Result<Costs, Memory>
-    ensures { IfOk result (λ each. each ≡ definition.penalties own costs.now) }
+// A list, also where none stands for one of nothing.
+fn opened(alloc: Global, fits: Vec<usize>, width: usize) -> Result<Vec<usize>, Memory>
+    ensures { IfOk result (λ all. (total : ℕ) → (costs_by total all.items ≡ costs_of width total fits.items)
+        × (AtMost total fits.items → AtMost total all.items)) }
 {
-    match own {
-        None => more_than(alloc, costs.as_slice(), least_of(costs.as_slice())),
-        Some(own) => other_than(alloc, costs.as_slice(), own),
+    if fits.is_empty() {
+        return Ok(Vec::from_elem(alloc, 0, width)?);
     }
+    Ok(fits)
 }
 
-fn least_of(costs: &[usize]) -> usize
-    ensures { result ≡ definition.least_of costs.now }
+fn best_of(alloc: Global, fits: &[usize]) -> Result<Vec<bool>, Memory>
+    ensures { IfOk result (λ best. best.items ≡ best_at (greatest_from 0 fits.now) fits.now) }
 {
-    let Some((first, rest)) = costs.split_first() else {
-        return 0;
-    };
-    let mut least = *first;
-    let mut left = rest;
-    while let Some((cost, more)) = left.split_first() {
-        least = least.min(*cost);
+    let greatest = greatest_of(fits);
+    let mut best = Vec::with_capacity(alloc, fits.len())?;
+    let mut left = fits;
+    while let Some((fit, more)) = left.split_first() {
+        best.push(*fit == greatest)?;
         left = more;
     }
-    least
+    Ok(best)
 }
 
-fn more_than(alloc: Global, costs: &[usize], least: usize) -> Result<Costs, Memory>
-    ensures { IfOk result (λ each. each ≡ definition.more_than least costs.now) }
+fn greatest_of(fits: &[usize]) -> usize
+    ensures { result ≡ greatest_from 0 fits.now }
 {
-    let mut each = Costs::from_vec(Vec::with_capacity(alloc, costs.len())?);
-    let mut left = costs;
-    while let Some((cost, more)) = left.split_first() {
-        each.push(if *cost == least { 0 } else { 1 })?;
+    let mut greatest: usize = 0;
+    let mut left = fits;
+    while let Some((fit, more)) = left.split_first() {
+        greatest = greatest.max(*fit);
         left = more;
     }
-    Ok(each)
-}
-
-fn other_than(alloc: Global, costs: &[usize], own: usize) -> Result<Costs, Memory>
-    ensures { IfOk result (λ each. each ≡ definition.other_than own 0 costs.now) }
-{
-    let mut each = Costs::from_vec(Vec::with_capacity(alloc, costs.len())?);
-    let mut left = costs;
-    let mut number = 0;
-    while let Some((_, more)) = left.split_first() {
-        each.push(if number == own { 0 } else { 1 })?;
-        number += 1;
-        left = more;
-    }
-    Ok(each)
+    greatest
 }

@@ -1,0 +1,286 @@
+-- What targets cost a place, and their penalties, as they are kept in memory.
+use Rattle.std.proofs.Common.{refl, sym, ap, ◌∙◌, subst, arith}
+use Rattle.std.proofs.lemmas.Bool.{cases_Bool, cond-true, cond-false, true≢false, eqb-true, eqb-false, eq-eqb, ne_eqb}
+use Rattle.std.proofs.lemmas.List.{length-replicate, take_all}
+use Rattle.std.proofs.lemmas.Option.{same_Some, none-some}
+use Rattle.std.specs.Prelude.{◌≡◌, ◌⊎◌, ℕ, zero, suc, ◌<◌, ◌≤◌, ◌+◌, ◌-◌, ◌==◌, min, max, Bool, true, false, cond, List, [], ◌∷◌, Option, Some, None, length, take, set, replicate, slice_get}
+use mathlib.Core.Logic.{inl, inr}
+use Rattle.layout.specs.Choices.{first_free, free_or, choice_at}
+use Rattle.layout.specs.Costs.{added, least_from, least_of, more_than, other_than}
+use Rattle.layout.specs.Fits.{costs_by, costs_of, AtMost, IsKept, own_row, penalty_by, best_row, greatest_from, best_at, fitted, fitted_from, ArePaid}
+
+-- ---- costs
+
+pub costs_count : (total : ℕ) (fits : List ℕ) → length (costs_by total fits) ≡ length fits
+costs_count total [] = refl
+costs_count total (f ∷ fs) = ap (λ n. n + 1) (costs_count total fs)
+
+-- of the width of their list
+pub costs_same : (total : ℕ) (fits : List ℕ) → costs_of (length fits) total fits ≡ costs_by total fits
+costs_same total [] = refl
+costs_same total (f ∷ fs) = refl
+
+pub kept_of : (total : ℕ) (fits : List ℕ) → AtMost total fits → IsKept (length fits) total fits
+kept_of total fits most = record { at_most = most; count = ap length (costs_same total fits) ∙ costs_count total fits }
+
+pub kept_free : (width : ℕ) (fits : List ℕ) → fits ≡ [] → IsKept width 0 fits
+kept_free width fits none = subst (IsKept width 0) (sym none) (record { at_most = tt; count = length-replicate width 0 })
+
+pub zeros_cost : (total width : ℕ) → costs_by total (replicate width 0) ≡ replicate width total
+zeros_cost total zero = refl
+zeros_cost total (suc width) = λ i. total ∷ zeros_cost total width i
+
+pub zeros_most : (total width : ℕ) → AtMost total (replicate width 0)
+zeros_most total zero = tt
+zeros_most total (suc width) = (omega arith, zeros_most total width)
+
+pub opened_none : (width : ℕ) (fits all : List ℕ) → fits ≡ [] → all ≡ replicate width 0 → (total : ℕ) → (costs_by total all ≡ costs_of width total fits) × (AtMost total fits → AtMost total all)
+opened_none width fits all none is total = (ap (costs_by total) is ∙ (zeros_cost total width ∙ ap (costs_of width total) (sym none)), λ most. subst (AtMost total) (sym is) (zeros_most total width))
+
+pub opened_some : (width : ℕ) (fits : List ℕ) → (fits ≡ [] → ⊥) → (total : ℕ) → (costs_by total fits ≡ costs_of width total fits) × (AtMost total fits → AtMost total fits)
+opened_some width [] some total = absurd (some refl)
+opened_some width (f ∷ fs) some total = (refl, λ most. most)
+
+-- ---- the row of a target of its own
+
+ones_past : (own number : ℕ) (costs : List ℕ) → own < number → other_than own number costs ≡ replicate (length costs) 1
+ones_past own number [] l = refl
+ones_past own number (c ∷ costs) l =
+    let here : cond (number == own) 0 1 ≡ 1 = cond-false (number == own) 0 1 (ne_eqb number own (λ e. omega (arith, e, l))) in
+    λ i. here i ∷ ones_past own (number + 1) costs (omega (arith, l)) i
+
+own_from : (j number own : ℕ) (costs : List ℕ) → number + j ≡ own → other_than own number costs ≡ own_row (length costs) j
+own_from j number own [] e = refl
+own_from zero number own (c ∷ costs) e =
+    let here : cond (number == own) 0 1 ≡ 0 = cond-true (number == own) 0 1 (eq-eqb number own (omega (arith, e))) in
+    λ i. here i ∷ ones_past own (number + 1) costs (omega (arith, e)) i
+own_from (suc j) number own (c ∷ costs) e =
+    let here : cond (number == own) 0 1 ≡ 1 = cond-false (number == own) 0 1 (ne_eqb number own (λ f. omega (arith, e, f))) in
+    λ i. here i ∷ own_from j (number + 1) own costs (omega (arith, e)) i
+
+pub own_is : (width total own : ℕ) (fits : List ℕ) → IsKept width total fits → own_row width own ≡ other_than own 0 (costs_of width total fits)
+own_is width total own fits kept = sym (own_from own 0 own (costs_of width total fits) (omega arith) ∙ ap (λ n. own_row n own) kept.count)
+
+-- ---- the row of the best
+
+least_is : (total greatest : ℕ) (fits : List ℕ) → least_from (total - greatest) (costs_by total fits) ≡ total - greatest_from greatest fits
+least_is total greatest [] = refl
+least_is total greatest (f ∷ fs) =
+    let same : min (total - greatest) (total - f) ≡ total - max greatest f = omega arith in
+    ap (λ least. least_from least (costs_by total fs)) same ∙ least_is total (max greatest f) fs
+
+greatest_most : (total greatest : ℕ) (fits : List ℕ) → greatest ≤ total → AtMost total fits → greatest_from greatest fits ≤ total
+greatest_most total greatest [] l most = l
+greatest_most total greatest (f ∷ fs) l most = let m = most.0 in greatest_most total (max greatest f) fs (omega (arith, l, m)) most.1
+
+same_test : (total f g : ℕ) → f ≤ total → g ≤ total → (f == g) ≡ ((total - f) == (total - g))
+same_test total f g l m = elim (cases_Bool (f == g)) [
+  | inl same ↦ let e = eqb-true f g same in same ∙ sym (eq-eqb (total - f) (total - g) (ap (λ n. total - n) e))
+  | inr other ↦ let n = eqb-false f g other in other ∙ sym (ne_eqb (total - f) (total - g) (λ e. n (omega (arith, e, l, m))))
+]
+
+best_more : (total greatest : ℕ) (fits : List ℕ) → greatest ≤ total → AtMost total fits → best_row (best_at greatest fits) ≡ more_than (total - greatest) (costs_by total fits)
+best_more total greatest [] l most = refl
+best_more total greatest (f ∷ fs) l most = λ i. cond (same_test total f greatest most.0 l i) 0 1 ∷ best_more total greatest fs l most.1 i
+
+best_by : (total : ℕ) (fits : List ℕ) → AtMost total fits → best_row (best_at (greatest_from 0 fits) fits) ≡ more_than (least_of (costs_by total fits)) (costs_by total fits)
+best_by total [] most = refl
+best_by total (f ∷ fs) most =
+    let least : least_of (costs_by total (f ∷ fs)) ≡ total - greatest_from f fs = least_is total f fs in
+    best_more total (greatest_from f fs) (f ∷ fs) (greatest_most total f fs most.0 most.1) most
+    ∙ ap (λ n. more_than n (costs_by total (f ∷ fs))) (sym least)
+
+pub best_is : (width total : ℕ) (fits all : List ℕ) → IsKept width total fits → ((t : ℕ) → (costs_by t all ≡ costs_of width t fits) × (AtMost t fits → AtMost t all)) → best_row (best_at (greatest_from 0 all) all) ≡ more_than (least_of (costs_of width total fits)) (costs_of width total fits)
+best_is width total fits all kept same =
+    best_by total all ((same total).1 kept.at_most) ∙ ap (λ costs. more_than (least_of costs) costs) (same total).0
+
+-- ---- what a row changes
+
+pub fitted_past : (number : ℕ) (fits : List ℕ) → slice_get fits number ≡ None → fitted number fits ≡ fits
+fitted_past number [] none = refl
+fitted_past zero (f ∷ fs) none = absurd (none-some f (sym none))
+fitted_past (suc number) (f ∷ fs) none = λ i. f ∷ fitted_past number fs none i
+
+pub fitted_at : (number count : ℕ) (fits : List ℕ) → slice_get fits number ≡ Some count → set fits number (count + 1) ≡ fitted number fits
+fitted_at number count [] some = absurd (none-some count some)
+fitted_at zero count (f ∷ fs) some = λ i. (same_Some f count some (~ i) + 1) ∷ fs
+fitted_at (suc number) count (f ∷ fs) some = λ i. f ∷ fitted_at number count fs some i
+
+ones_paid : (total width : ℕ) (fits : List ℕ) → AtMost total fits → length fits ≤ width → costs_by (total + 1) fits ≡ added (costs_by total fits) (replicate width 1)
+ones_paid total width [] most l = refl
+ones_paid total zero (f ∷ fs) most l = absurd (omega (arith, l))
+ones_paid total (suc width) (f ∷ fs) most l =
+    let m = most.0 in
+    let here : (total + 1) - f ≡ (total - f) + 1 = omega (arith, m) in
+    λ i. here i ∷ ones_paid total width fs most.1 (omega (arith, l)) i
+
+own_paid : (total width own : ℕ) (fits : List ℕ) → AtMost total fits → length fits ≤ width → costs_by (total + 1) (fitted own fits) ≡ added (costs_by total fits) (own_row width own)
+own_paid total width own [] most l = refl
+own_paid total zero own (f ∷ fs) most l = absurd (omega (arith, l))
+own_paid total (suc width) zero (f ∷ fs) most l =
+    let here : (total + 1) - (f + 1) ≡ (total - f) + 0 = omega arith in
+    λ i. here i ∷ ones_paid total width fs most.1 (omega (arith, l)) i
+own_paid total (suc width) (suc own) (f ∷ fs) most l =
+    let m = most.0 in
+    let here : (total + 1) - f ≡ (total - f) + 1 = omega (arith, m) in
+    λ i. here i ∷ own_paid total width own fs most.1 (omega (arith, l)) i
+
+more_most : (total : ℕ) (fits : List ℕ) → AtMost total fits → AtMost (total + 1) fits
+more_most total [] most = tt
+more_most total (f ∷ fs) most = let m = most.0 in (omega (arith, m), more_most total fs most.1)
+
+own_most : (total own : ℕ) (fits : List ℕ) → AtMost total fits → AtMost (total + 1) (fitted own fits)
+own_most total own [] most = tt
+own_most total zero (f ∷ fs) most = let m = most.0 in (omega (arith, m), more_most total fs most.1)
+own_most total (suc own) (f ∷ fs) most = let m = most.0 in (omega (arith, m), own_most total own fs most.1)
+
+from_none : (number : ℕ) (best : List Bool) → fitted_from number best [] ≡ []
+from_none number [] = refl
+from_none number (true ∷ best) = from_none (number + 1) best
+from_none number (false ∷ best) = from_none (number + 1) best
+
+from_next : (number : ℕ) (best : List Bool) (f : ℕ) (fs : List ℕ) → fitted_from (suc number) best (f ∷ fs) ≡ f ∷ fitted_from number best fs
+from_next number [] f fs = refl
+from_next number (true ∷ best) f fs = from_next (number + 1) best f (fitted number fs)
+from_next number (false ∷ best) f fs = from_next (number + 1) best f fs
+
+best_paid : (total : ℕ) (best : List Bool) (fits : List ℕ) → AtMost total fits → length fits ≤ length best → costs_by (total + 1) (fitted_from 0 best fits) ≡ added (costs_by total fits) (best_row best)
+best_paid total best [] most l = ap (costs_by (total + 1)) (from_none 0 best)
+best_paid total [] (f ∷ fs) most l = absurd (omega (arith, l))
+best_paid total (true ∷ best) (f ∷ fs) most l =
+    let here : (total + 1) - (f + 1) ≡ (total - f) + 0 = omega arith in
+    ap (costs_by (total + 1)) (from_next 0 best (f + 1) fs) ∙ (λ i. here i ∷ best_paid total best fs most.1 (omega (arith, l)) i)
+best_paid total (false ∷ best) (f ∷ fs) most l =
+    let m = most.0 in
+    let here : (total + 1) - f ≡ (total - f) + 1 = omega (arith, m) in
+    ap (costs_by (total + 1)) (from_next 0 best f fs) ∙ (λ i. here i ∷ best_paid total best fs most.1 (omega (arith, l)) i)
+
+best_most : (total : ℕ) (best : List Bool) (fits : List ℕ) → AtMost total fits → AtMost (total + 1) (fitted_from 0 best fits)
+best_most total best [] most = subst (AtMost (total + 1)) (sym (from_none 0 best)) tt
+best_most total [] (f ∷ fs) most = more_most total (f ∷ fs) most
+best_most total (true ∷ best) (f ∷ fs) most =
+    let m = most.0 in subst (AtMost (total + 1)) (sym (from_next 0 best (f + 1) fs)) (omega (arith, m), best_most total best fs most.1)
+best_most total (false ∷ best) (f ∷ fs) most =
+    let m = most.0 in subst (AtMost (total + 1)) (sym (from_next 0 best f fs)) (omega (arith, m), best_most total best fs most.1)
+
+-- no more than a row has
+cut_added : (n : ℕ) (total : ℕ) (fits row : List ℕ) → length row ≡ n → added (costs_by total (take n fits)) row ≡ added (costs_by total fits) row
+cut_added zero total [] row l = refl
+cut_added zero total (f ∷ fs) [] l = refl
+cut_added zero total (f ∷ fs) (p ∷ row) l = absurd (omega (arith, l))
+cut_added (suc n) total [] row l = refl
+cut_added (suc n) total (f ∷ fs) [] l = absurd (omega (arith, l))
+cut_added (suc n) total (f ∷ fs) (p ∷ row) l = λ i. ((total - f) + p) ∷ cut_added n total fs row (omega (arith, l)) i
+
+cut_most : (n total : ℕ) (fits : List ℕ) → AtMost total fits → AtMost total (take n fits)
+cut_most zero total fits most = tt
+cut_most (suc n) total [] most = tt
+cut_most (suc n) total (f ∷ fs) most = (most.0, cut_most n total fs most.1)
+
+cut_count : (n : ℕ) (fits : List ℕ) → length (take n fits) ≤ n
+cut_count zero fits = omega arith
+cut_count (suc n) [] = omega arith
+cut_count (suc n) (f ∷ fs) = let c = cut_count n fs in omega (arith, c)
+
+row_count : (width own : ℕ) → length (own_row width own) ≡ width
+row_count zero own = refl
+row_count (suc width) zero = ap (λ n. n + 1) (length-replicate width 1)
+row_count (suc width) (suc own) = ap (λ n. n + 1) (row_count width own)
+
+best_count : (best : List Bool) → length (best_row best) ≡ length best
+best_count [] = refl
+best_count (b ∷ best) = ap (λ n. n + 1) (best_count best)
+
+pub pays_own : (width own : ℕ) (fits more : List ℕ) → more ≡ fitted own (take width fits) → ArePaid fits (own_row width own) more
+pays_own width own fits more is = subst (ArePaid fits (own_row width own)) (sym is) (record {
+  paid = λ total most.
+      own_paid total width own (take width fits) (cut_most width total fits most) (cut_count width fits)
+      ∙ cut_added width total fits (own_row width own) (row_count width own);
+  at_most = λ total most. own_most total own (take width fits) (cut_most width total fits most);
+})
+
+pub pays_best : (best : List Bool) (fits more : List ℕ) → more ≡ fitted_from 0 best (take (length best) fits) → ArePaid fits (best_row best) more
+pays_best best fits more is = subst (ArePaid fits (best_row best)) (sym is) (record {
+  paid = λ total most.
+      best_paid total best (take (length best) fits) (cut_most (length best) total fits most) (cut_count (length best) fits)
+      ∙ cut_added (length best) total fits (best_row best) (best_count best);
+  at_most = λ total most. best_most total best (take (length best) fits) (cut_most (length best) total fits most);
+})
+
+-- ---- a place is charged
+
+pub charged_is : (width total : ℕ) (fits all row more : List ℕ) → IsKept width total fits → ((t : ℕ) → (costs_by t all ≡ costs_of width t fits) × (AtMost t fits → AtMost t all)) → ArePaid all row more
+    → costs_of (length more) (total + 1) more ≡ added (costs_of width total fits) row
+charged_is width total fits all row more kept same pays =
+    costs_same (total + 1) more ∙ (pays.paid total ((same total).1 kept.at_most) ∙ ap (λ costs. added costs row) (same total).0)
+
+pub charged_kept : (width total : ℕ) (fits all row more : List ℕ) → IsKept width total fits → ((t : ℕ) → (costs_by t all ≡ costs_of width t fits) × (AtMost t fits → AtMost t all)) → ArePaid all row more → IsKept (length more) (total + 1) more
+charged_kept width total fits all row more kept same pays = kept_of (total + 1) more (pays.at_most total ((same total).1 kept.at_most))
+
+-- ---- what a row chooses
+
+first_one : (width : ℕ) → first_free (replicate width 1) ≡ width
+first_one zero = refl
+first_one (suc width) = ap (λ n. n + 1) (first_one width)
+
+first_own : (width own : ℕ) → first_free (own_row width own) ≡ min own width
+first_own zero own = omega arith
+first_own (suc width) zero = refl
+first_own (suc width) (suc own) = let f = first_own width own in omega (arith, f)
+
+own_here : (width own : ℕ) → own < width → slice_get (own_row width own) own ≡ Some 0
+own_here zero own l = absurd (omega (arith, l))
+own_here (suc width) zero l = refl
+own_here (suc width) (suc own) l = own_here width own (omega (arith, l))
+
+one_at : (width i : ℕ) → i < width → slice_get (replicate width 1) i ≡ Some 1
+one_at zero i l = absurd (omega (arith, l))
+one_at (suc width) zero l = refl
+one_at (suc width) (suc i) l = one_at width i (omega (arith, l))
+
+own_apart : (width own i : ℕ) → i < width → (i ≡ own → ⊥) → slice_get (own_row width own) i ≡ Some 1
+own_apart zero own i l n = absurd (omega (arith, l))
+own_apart (suc width) zero zero l n = absurd (n refl)
+own_apart (suc width) zero (suc i) l n = one_at width i (omega (arith, l))
+own_apart (suc width) (suc own) zero l n = refl
+own_apart (suc width) (suc own) (suc i) l n = own_apart width own i (omega (arith, l)) (λ e. n (ap suc e))
+
+own_beyond : (width own i : ℕ) → width ≤ i → slice_get (own_row width own) i ≡ None
+own_beyond zero own i l = refl
+own_beyond (suc width) own zero l = absurd (omega (arith, l))
+own_beyond (suc width) zero (suc i) l = ones_beyond width i (omega (arith, l))
+  where
+    ones_beyond : (width i : ℕ) → width ≤ i → slice_get (replicate {A = ℕ} width 1) i ≡ None
+    ones_beyond zero i l = refl
+    ones_beyond (suc width) zero l = absurd (omega (arith, l))
+    ones_beyond (suc width) (suc i) l = ones_beyond width i (omega (arith, l))
+own_beyond (suc width) (suc own) (suc i) l = own_beyond width own i (omega (arith, l))
+
+pub none_beyond : (width own from : ℕ) → width ≤ from → None ≡ choice_at (own_row width own) from
+none_beyond width own from l = sym (ap (λ o. free_or o (own_row width own)) (own_beyond width own from l))
+
+pub none_own : (width own from : ℕ) → from < width → from ≡ own → None ≡ choice_at (own_row width own) from
+none_own width own from l e = sym (ap (λ o. free_or o (own_row width own)) (ap (slice_get (own_row width own)) e ∙ own_here width own (omega (arith, l, e))))
+
+pub other_chosen : (width own from : ℕ) → from < width → (from ≡ own → ⊥) → Some (min own width) ≡ choice_at (own_row width own) from
+other_chosen width own from l n = sym (ap (λ o. free_or o (own_row width own)) (own_apart width own from l n) ∙ ap Some (first_own width own))
+
+pub best_chosen : (best : List Bool) (from : ℕ) → slice_get best from ≡ None → choice_at (best_row best) from ≡ None
+best_chosen best from e = ap (λ o. free_or o (best_row best)) (by best from e)
+  where
+    by : (best : List Bool) (from : ℕ) → slice_get best from ≡ None → slice_get (best_row best) from ≡ None
+    by [] from e = refl
+    by (b ∷ best) zero e = absurd (none-some b (sym e))
+    by (b ∷ best) (suc from) e = by best from e
+
+pub best_found : (best : List Bool) (from : ℕ) (b : Bool) → slice_get best from ≡ Some b → choice_at (best_row best) from ≡ cond b None (Some (first_free (best_row best)))
+best_found best from b e = ap (λ o. free_or o (best_row best)) (by best from e) ∙ judged b
+  where
+    by : (best : List Bool) (from : ℕ) → slice_get best from ≡ Some b → slice_get (best_row best) from ≡ Some (penalty_by b)
+    by [] from e = absurd (none-some b e)
+    by (first ∷ best) zero e = ap (λ c. Some (penalty_by c)) (same_Some first b e)
+    by (first ∷ best) (suc from) e = by best from e
+
+    judged : (b : Bool) → free_or (Some (penalty_by b)) (best_row best) ≡ cond b None (Some (first_free (best_row best)))
+    judged true = refl
+    judged false = refl
