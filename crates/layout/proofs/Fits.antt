@@ -1,19 +1,19 @@
 -- What targets cost a place, and their penalties, as they are kept in memory.
 use Rattle.std.proofs.Common.{refl, sym, ap, ◌∙◌, subst, arith}
-use Rattle.std.proofs.lemmas.Bool.{cases_Bool, cond-true, cond-false, true≢false, eqb-true, eqb-false, eq-eqb, ne_eqb}
-use Rattle.std.proofs.lemmas.List.{length-replicate, take_all}
-use Rattle.std.proofs.lemmas.Option.{same_Some, none-some}
-use Rattle.std.specs.Prelude.{◌≡◌, ◌⊎◌, ℕ, zero, suc, ◌<◌, ◌≤◌, ◌+◌, ◌-◌, ◌==◌, min, max, Bool, true, false, cond, List, [], ◌∷◌, Option, Some, None, length, take, set, replicate, slice_get}
+use Rattle.std.proofs.lemmas.Bool.{cases_Bool, cond-true, cond-false, eqb-true, eqb-false, eq-eqb, ne_eqb}
+use Rattle.std.proofs.lemmas.List.{length-replicate}
+use Rattle.std.proofs.lemmas.Option.{slice_get_past}
+use Rattle.std.specs.Prelude.{◌≡◌, ℕ, zero, suc, ◌<◌, ◌≤◌, ◌+◌, ◌-◌, ◌==◌, min, max, Bool, true, false, cond, List, [], ◌∷◌, Option, Some, None, length, take, set, get_or, replicate, slice_get}
 use mathlib.Core.Logic.{inl, inr}
 use Rattle.layout.specs.Choices.{first_free, free_or, choice_at}
-use Rattle.layout.specs.Costs.{added, least_from, least_of, more_than, other_than}
-use Rattle.layout.specs.Fits.{costs_by, costs_of, AtMost, IsKept, own_row, penalty_by, best_row, greatest_from, best_at, fitted, fitted_from, ArePaid}
+use Rattle.layout.specs.Costs.{added, least_from, least_of, more_than, other_than, penalties}
+use Rattle.layout.specs.Fits.{costs_by, costs_of, AtMost, IsOpened, IsKept, own_row, penalty_by, best_row, row_by, greatest_from, best_at, fitted, fitted_from, ArePaid}
 
 -- ---- costs
 
 pub costs_count : (total : ℕ) (fits : List ℕ) → length (costs_by total fits) ≡ length fits
 costs_count total [] = refl
-costs_count total (f ∷ fs) = ap (λ n. n + 1) (costs_count total fs)
+costs_count total (f ∷ fs) = ap suc (costs_count total fs)
 
 -- of the width of their list
 pub costs_same : (total : ℕ) (fits : List ℕ) → costs_of (length fits) total fits ≡ costs_by total fits
@@ -28,16 +28,18 @@ kept_free width fits none = subst (IsKept width 0) (sym none) (record { at_most 
 
 pub zeros_cost : (total width : ℕ) → costs_by total (replicate width 0) ≡ replicate width total
 zeros_cost total zero = refl
-zeros_cost total (suc width) = λ i. total ∷ zeros_cost total width i
+zeros_cost total (suc width) =
+    let whole : total - 0 ≡ total = omega arith in
+    λ i. whole i ∷ zeros_cost total width i
 
 pub zeros_most : (total width : ℕ) → AtMost total (replicate width 0)
 zeros_most total zero = tt
 zeros_most total (suc width) = (omega arith, zeros_most total width)
 
-pub opened_none : (width : ℕ) (fits all : List ℕ) → fits ≡ [] → all ≡ replicate width 0 → (total : ℕ) → (costs_by total all ≡ costs_of width total fits) × (AtMost total fits → AtMost total all)
+pub opened_none : (width : ℕ) (fits all : List ℕ) → fits ≡ [] → all ≡ replicate width 0 → IsOpened width fits all
 opened_none width fits all none is total = (ap (costs_by total) is ∙ (zeros_cost total width ∙ ap (costs_of width total) (sym none)), λ most. subst (AtMost total) (sym is) (zeros_most total width))
 
-pub opened_some : (width : ℕ) (fits : List ℕ) → (fits ≡ [] → ⊥) → (total : ℕ) → (costs_by total fits ≡ costs_of width total fits) × (AtMost total fits → AtMost total fits)
+pub opened_some : (width : ℕ) (fits : List ℕ) → (fits ≡ [] → ⊥) → IsOpened width fits fits
 opened_some width [] some total = absurd (some refl)
 opened_some width (f ∷ fs) some total = (refl, λ most. most)
 
@@ -46,16 +48,16 @@ opened_some width (f ∷ fs) some total = (refl, λ most. most)
 ones_past : (own number : ℕ) (costs : List ℕ) → own < number → other_than own number costs ≡ replicate (length costs) 1
 ones_past own number [] l = refl
 ones_past own number (c ∷ costs) l =
-    let here : cond (number == own) 0 1 ≡ 1 = cond-false (number == own) 0 1 (ne_eqb number own (λ e. omega (arith, e, l))) in
+    let here : penalty_by (number == own) ≡ 1 = cond-false (number == own) 0 1 (ne_eqb number own (λ e. omega (arith, e, l))) in
     λ i. here i ∷ ones_past own (number + 1) costs (omega (arith, l)) i
 
 own_from : (j number own : ℕ) (costs : List ℕ) → number + j ≡ own → other_than own number costs ≡ own_row (length costs) j
 own_from j number own [] e = refl
 own_from zero number own (c ∷ costs) e =
-    let here : cond (number == own) 0 1 ≡ 0 = cond-true (number == own) 0 1 (eq-eqb number own (omega (arith, e))) in
+    let here : penalty_by (number == own) ≡ 0 = cond-true (number == own) 0 1 (eq-eqb number own (omega (arith, e))) in
     λ i. here i ∷ ones_past own (number + 1) costs (omega (arith, e)) i
 own_from (suc j) number own (c ∷ costs) e =
-    let here : cond (number == own) 0 1 ≡ 1 = cond-false (number == own) 0 1 (ne_eqb number own (λ f. omega (arith, e, f))) in
+    let here : penalty_by (number == own) ≡ 1 = cond-false (number == own) 0 1 (ne_eqb number own (λ f. omega (arith, e, f))) in
     λ i. here i ∷ own_from j (number + 1) own costs (omega (arith, e)) i
 
 pub own_is : (width total own : ℕ) (fits : List ℕ) → IsKept width total fits → own_row width own ≡ other_than own 0 (costs_of width total fits)
@@ -87,24 +89,26 @@ best_by : (total : ℕ) (fits : List ℕ) → AtMost total fits → best_row (be
 best_by total [] most = refl
 best_by total (f ∷ fs) most =
     let least : least_of (costs_by total (f ∷ fs)) ≡ total - greatest_from f fs = least_is total f fs in
-    best_more total (greatest_from f fs) (f ∷ fs) (greatest_most total f fs most.0 most.1) most
+    let first : max 0 f ≡ f = omega arith in
+    ap (λ g. best_row (best_at (greatest_from g fs) (f ∷ fs))) first
+    ∙ best_more total (greatest_from f fs) (f ∷ fs) (greatest_most total f fs most.0 most.1) most
     ∙ ap (λ n. more_than n (costs_by total (f ∷ fs))) (sym least)
 
-pub best_is : (width total : ℕ) (fits all : List ℕ) → IsKept width total fits → ((t : ℕ) → (costs_by t all ≡ costs_of width t fits) × (AtMost t fits → AtMost t all)) → best_row (best_at (greatest_from 0 all) all) ≡ more_than (least_of (costs_of width total fits)) (costs_of width total fits)
+pub best_is : (width total : ℕ) (fits all : List ℕ) → IsKept width total fits → IsOpened width fits all → best_row (best_at (greatest_from 0 all) all) ≡ more_than (least_of (costs_of width total fits)) (costs_of width total fits)
 best_is width total fits all kept same =
     best_by total all ((same total).1 kept.at_most) ∙ ap (λ costs. more_than (least_of costs) costs) (same total).0
 
 -- ---- what a row changes
 
-pub fitted_past : (number : ℕ) (fits : List ℕ) → slice_get fits number ≡ None → fitted number fits ≡ fits
-fitted_past number [] none = refl
-fitted_past zero (f ∷ fs) none = absurd (none-some f (sym none))
-fitted_past (suc number) (f ∷ fs) none = λ i. f ∷ fitted_past number fs none i
+pub fitted_past : (number : ℕ) (fits : List ℕ) → length fits ≤ number → fits ≡ fitted number fits
+fitted_past number [] l = refl
+fitted_past zero (f ∷ fs) l = absurd (omega (arith, l))
+fitted_past (suc number) (f ∷ fs) l = λ i. f ∷ fitted_past number fs (omega (arith, l)) i
 
-pub fitted_at : (number count : ℕ) (fits : List ℕ) → slice_get fits number ≡ Some count → set fits number (count + 1) ≡ fitted number fits
-fitted_at number count [] some = absurd (none-some count some)
-fitted_at zero count (f ∷ fs) some = λ i. (same_Some f count some (~ i) + 1) ∷ fs
-fitted_at (suc number) count (f ∷ fs) some = λ i. f ∷ fitted_at number count fs some i
+pub fitted_at : (number count more : ℕ) (fits : List ℕ) → number < length fits → count ≡ get_or fits number count → more ≡ count + 1 → set fits number more ≡ fitted number fits
+fitted_at number count more [] l is e = absurd (omega (arith, l))
+fitted_at zero count more (f ∷ fs) l is e = λ i. (e ∙ ap (λ n. n + 1) is) i ∷ fs
+fitted_at (suc number) count more (f ∷ fs) l is e = λ i. f ∷ fitted_at number count more fs (omega (arith, l)) is e i
 
 ones_paid : (total width : ℕ) (fits : List ℕ) → AtMost total fits → length fits ≤ width → costs_by (total + 1) fits ≡ added (costs_by total fits) (replicate width 1)
 ones_paid total width [] most l = refl
@@ -141,8 +145,12 @@ from_none number (false ∷ best) = from_none (number + 1) best
 
 from_next : (number : ℕ) (best : List Bool) (f : ℕ) (fs : List ℕ) → fitted_from (suc number) best (f ∷ fs) ≡ f ∷ fitted_from number best fs
 from_next number [] f fs = refl
-from_next number (true ∷ best) f fs = from_next (number + 1) best f (fitted number fs)
-from_next number (false ∷ best) f fs = from_next (number + 1) best f fs
+from_next number (true ∷ best) f fs =
+    let next : suc number + 1 ≡ suc (number + 1) = omega arith in
+    ap (λ n. fitted_from n best (f ∷ fitted number fs)) next ∙ from_next (number + 1) best f (fitted number fs)
+from_next number (false ∷ best) f fs =
+    let next : suc number + 1 ≡ suc (number + 1) = omega arith in
+    ap (λ n. fitted_from n best (f ∷ fs)) next ∙ from_next (number + 1) best f fs
 
 best_paid : (total : ℕ) (best : List Bool) (fits : List ℕ) → AtMost total fits → length fits ≤ length best → costs_by (total + 1) (fitted_from 0 best fits) ≡ added (costs_by total fits) (best_row best)
 best_paid total best [] most l = ap (costs_by (total + 1)) (from_none 0 best)
@@ -184,12 +192,12 @@ cut_count (suc n) (f ∷ fs) = let c = cut_count n fs in omega (arith, c)
 
 row_count : (width own : ℕ) → length (own_row width own) ≡ width
 row_count zero own = refl
-row_count (suc width) zero = ap (λ n. n + 1) (length-replicate width 1)
-row_count (suc width) (suc own) = ap (λ n. n + 1) (row_count width own)
+row_count (suc width) zero = ap suc (length-replicate width 1)
+row_count (suc width) (suc own) = ap suc (row_count width own)
 
 best_count : (best : List Bool) → length (best_row best) ≡ length best
 best_count [] = refl
-best_count (b ∷ best) = ap (λ n. n + 1) (best_count best)
+best_count (b ∷ best) = ap suc (best_count best)
 
 pub pays_own : (width own : ℕ) (fits more : List ℕ) → more ≡ fitted own (take width fits) → ArePaid fits (own_row width own) more
 pays_own width own fits more is = subst (ArePaid fits (own_row width own)) (sym is) (record {
@@ -207,25 +215,49 @@ pays_best best fits more is = subst (ArePaid fits (best_row best)) (sym is) (rec
   at_most = λ total most. best_most total best (take (length best) fits) (cut_most (length best) total fits most);
 })
 
+pub own_pays : (o : Option ℕ) (width own : ℕ) (best : List Bool) (fits more row : List ℕ) → row_by o width best ≡ row → o ≡ Some own → more ≡ fitted own (take width fits) → ArePaid fits row more
+own_pays o width own best fits more row view is e =
+    subst (λ r. ArePaid fits r more) (ap (λ p. row_by p width best) (sym is) ∙ view) (pays_own width own fits more e)
+
+pub best_pays : (o : Option ℕ) (width : ℕ) (best : List Bool) (fits more row : List ℕ) → row_by o width best ≡ row → o ≡ None → more ≡ fitted_from 0 best (take (length best) fits) → ArePaid fits row more
+best_pays o width best fits more row view is e =
+    subst (λ r. ArePaid fits r more) (ap (λ p. row_by p width best) (sym is) ∙ view) (pays_best best fits more e)
+
 -- ---- a place is charged
 
-pub charged_is : (width total : ℕ) (fits all row more : List ℕ) → IsKept width total fits → ((t : ℕ) → (costs_by t all ≡ costs_of width t fits) × (AtMost t fits → AtMost t all)) → ArePaid all row more
-    → costs_of (length more) (total + 1) more ≡ added (costs_of width total fits) row
-charged_is width total fits all row more kept same pays =
-    costs_same (total + 1) more ∙ (pays.paid total ((same total).1 kept.at_most) ∙ ap (λ costs. added costs row) (same total).0)
+module _ (width total : ℕ) (fits was all row more : List ℕ) (count sum : ℕ) (kept : IsKept width total fits) (same : IsOpened width was all) (is : was ≡ fits) (pays : ArePaid all row more) (count_is : count ≡ length more) (sum_is : sum ≡ total + 1) where
+  opened : (costs_by total all ≡ costs_of width total fits) × AtMost total all
+  opened = ((same total).0 ∙ ap (costs_of width total) is, (same total).1 (subst (AtMost total) (sym is) kept.at_most))
 
-pub charged_kept : (width total : ℕ) (fits all row more : List ℕ) → IsKept width total fits → ((t : ℕ) → (costs_by t all ≡ costs_of width t fits) × (AtMost t fits → AtMost t all)) → ArePaid all row more → IsKept (length more) (total + 1) more
-charged_kept width total fits all row more kept same pays = kept_of (total + 1) more (pays.at_most total ((same total).1 kept.at_most))
+  pub charged_is : costs_of count sum more ≡ added (costs_of width total fits) row
+  charged_is =
+      (λ i. costs_of (count_is i) (sum_is i) more)
+      ∙ (costs_same (total + 1) more ∙ (pays.paid total opened.1 ∙ ap (λ costs. added costs row) opened.0))
+
+  pub charged_kept : IsKept count sum more
+  charged_kept =
+      subst (λ n. IsKept n sum more) (sym count_is) (subst (λ n. IsKept (length more) n more) (sym sum_is)
+      (kept_of (total + 1) more (pays.at_most total opened.1)))
+
+-- ---- penalties
+
+pub own_penalties : (o : Option ℕ) (width total own : ℕ) (fits row self : List ℕ) → costs_of width total fits ≡ self → IsKept width total fits → o ≡ Some own → row ≡ own_row width own → row ≡ penalties o self
+own_penalties o width total own fits row self view kept is e =
+    e ∙ (own_is width total own fits kept ∙ ((λ i. penalties (Some own) (view i)) ∙ (λ i. penalties (sym is i) self)))
+
+pub best_penalties : (o : Option ℕ) (width total : ℕ) (fits all row self : List ℕ) → costs_of width total fits ≡ self → IsKept width total fits → IsOpened width fits all → o ≡ None → row ≡ best_row (best_at (greatest_from 0 all) all) → row ≡ penalties o self
+best_penalties o width total fits all row self view kept same is e =
+    e ∙ (best_is width total fits all kept same ∙ ((λ i. penalties None (view i)) ∙ (λ i. penalties (sym is i) self)))
 
 -- ---- what a row chooses
 
 first_one : (width : ℕ) → first_free (replicate width 1) ≡ width
 first_one zero = refl
-first_one (suc width) = ap (λ n. n + 1) (first_one width)
+first_one (suc width) = ap suc (first_one width)
 
 first_own : (width own : ℕ) → first_free (own_row width own) ≡ min own width
 first_own zero own = omega arith
-first_own (suc width) zero = refl
+first_own (suc width) zero = omega arith
 first_own (suc width) (suc own) = let f = first_own width own in omega (arith, f)
 
 own_here : (width own : ℕ) → own < width → slice_get (own_row width own) own ≡ Some 0
@@ -233,7 +265,7 @@ own_here zero own l = absurd (omega (arith, l))
 own_here (suc width) zero l = refl
 own_here (suc width) (suc own) l = own_here width own (omega (arith, l))
 
-one_at : (width i : ℕ) → i < width → slice_get (replicate width 1) i ≡ Some 1
+one_at : (width i : ℕ) → i < width → slice_get {X = ℕ} (replicate width 1) i ≡ Some 1
 one_at zero i l = absurd (omega (arith, l))
 one_at (suc width) zero l = refl
 one_at (suc width) (suc i) l = one_at width i (omega (arith, l))
@@ -262,25 +294,21 @@ none_beyond width own from l = sym (ap (λ o. free_or o (own_row width own)) (ow
 pub none_own : (width own from : ℕ) → from < width → from ≡ own → None ≡ choice_at (own_row width own) from
 none_own width own from l e = sym (ap (λ o. free_or o (own_row width own)) (ap (slice_get (own_row width own)) e ∙ own_here width own (omega (arith, l, e))))
 
-pub other_chosen : (width own from : ℕ) → from < width → (from ≡ own → ⊥) → Some (min own width) ≡ choice_at (own_row width own) from
-other_chosen width own from l n = sym (ap (λ o. free_or o (own_row width own)) (own_apart width own from l n) ∙ ap Some (first_own width own))
+pub other_chosen : (width own from : ℕ) → (first : ℕ) → from < width → (from ≡ own → ⊥) → first ≡ min own width → Some first ≡ choice_at (own_row width own) from
+other_chosen width own from first l n e = ap Some e ∙ sym (ap (λ o. free_or o (own_row width own)) (own_apart width own from l n) ∙ ap Some (first_own width own))
 
-pub best_chosen : (best : List Bool) (from : ℕ) → slice_get best from ≡ None → choice_at (best_row best) from ≡ None
-best_chosen best from e = ap (λ o. free_or o (best_row best)) (by best from e)
-  where
-    by : (best : List Bool) (from : ℕ) → slice_get best from ≡ None → slice_get (best_row best) from ≡ None
-    by [] from e = refl
-    by (b ∷ best) zero e = absurd (none-some b (sym e))
-    by (b ∷ best) (suc from) e = by best from e
+pub best_beyond : (best : List Bool) (from : ℕ) → length best ≤ from → None ≡ choice_at (best_row best) from
+best_beyond best from l =
+    let n = best_count best in
+    sym (ap (λ o. free_or o (best_row best)) (slice_get_past (best_row best) from (omega (arith, l, n))))
 
-pub best_found : (best : List Bool) (from : ℕ) (b : Bool) → slice_get best from ≡ Some b → choice_at (best_row best) from ≡ cond b None (Some (first_free (best_row best)))
-best_found best from b e = ap (λ o. free_or o (best_row best)) (by best from e) ∙ judged b
-  where
-    by : (best : List Bool) (from : ℕ) → slice_get best from ≡ Some b → slice_get (best_row best) from ≡ Some (penalty_by b)
-    by [] from e = absurd (none-some b e)
-    by (first ∷ best) zero e = ap (λ c. Some (penalty_by c)) (same_Some first b e)
-    by (first ∷ best) (suc from) e = by best from e
+best_found : (best : List Bool) (from : ℕ) (b : Bool) → from < length best → b ≡ get_or best from b → slice_get (best_row best) from ≡ Some (penalty_by b)
+best_found [] from b l is = absurd (omega (arith, l))
+best_found (first ∷ best) zero b l is = ap (λ c. Some (penalty_by c)) (sym is)
+best_found (first ∷ best) (suc from) b l is = best_found best from b (omega (arith, l)) is
 
-    judged : (b : Bool) → free_or (Some (penalty_by b)) (best_row best) ≡ cond b None (Some (first_free (best_row best)))
-    judged true = refl
-    judged false = refl
+pub best_stays : (best : List Bool) (from : ℕ) (b : Bool) → from < length best → b ≡ get_or best from b → b ≡ true → None ≡ choice_at (best_row best) from
+best_stays best from b l is t = sym (ap (λ o. free_or o (best_row best)) (best_found best from b l is ∙ ap (λ c. Some (penalty_by c)) t))
+
+pub best_changes : (best : List Bool) (from first : ℕ) (b : Bool) → from < length best → b ≡ get_or best from b → b ≡ false → first ≡ first_free (best_row best) → Some first ≡ choice_at (best_row best) from
+best_changes best from first b l is f e = ap Some e ∙ sym (ap (λ o. free_or o (best_row best)) (best_found best from b l is ∙ ap (λ c. Some (penalty_by c)) f))

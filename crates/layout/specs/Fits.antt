@@ -22,6 +22,11 @@ abbrev pub AtMost : ℕ → List ℕ → Type 0
 AtMost total [] = Unit {0}
 AtMost total (fit ∷ fits) = (fit ≤ total) × AtMost total fits
 
+-- own: the list stands for all of them, also where none stood for one of nothing
+abbrev pub IsOpened : ℕ → List ℕ → List ℕ → Type 0
+IsOpened width fits all =
+    (total : ℕ) → (costs_by total all ≡ costs_of width total fits) × (AtMost total fits → AtMost total all)
+
 pub record IsKept (width total : ℕ) (fits : List ℕ) : Type 0 where
   pub at_most : AtMost total fits
   pub count : length (costs_of width total fits) ≡ width

@@ -1,6 +1,6 @@
 ghost use Rattle.std.specs.Prelude.{◌≡◌, ℕ, IfOk, OnOk, replicate};
 ghost use Rattle.layout.specs.Costs as definition;
-ghost use Rattle.layout.specs.Fits.{costs_by, costs_of, greatest_from, best_at, AtMost};
+ghost use Rattle.layout.specs.Fits.{IsOpened, greatest_from, best_at};
 
 use crate::penalty::Penalties;
 use shared_types::Memory;
@@ -79,9 +79,9 @@ impl Costs {
 }
 
 // A list, also where none stands for one of nothing.
+#[tactic(auto, using(crate::proofs::Fits::opened_some))]
 fn opened(alloc: Global, fits: Vec<usize>, width: usize) -> Result<Vec<usize>, Memory>
-    ensures { IfOk result (λ all. (total : ℕ) → (costs_by total all.items ≡ costs_of width total fits.items)
-        × (AtMost total fits.items → AtMost total all.items)) }
+    ensures { IfOk result (λ all. IsOpened width fits.items all.items) }
 {
     if fits.is_empty() {
         return Ok(Vec::from_elem(alloc, 0, width)?);

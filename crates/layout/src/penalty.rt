@@ -77,7 +77,6 @@ impl Penalties {
     }
 }
 
-#[tactic(auto, using(crate::proofs::Fits::none_beyond, crate::proofs::Fits::none_own, crate::proofs::Fits::other_chosen))]
 fn other_than(width: usize, own: usize, from: usize) -> Option<usize>
     ensures { result ≡ definition.choice_at (own_row width own) from }
 {
@@ -90,7 +89,6 @@ fn other_than(width: usize, own: usize, from: usize) -> Option<usize>
     Some(own.min(width))
 }
 
-#[tactic(auto, using(crate::proofs::Fits::best_chosen, crate::proofs::Fits::best_found))]
 fn other_than_best(best: &[bool], from: usize) -> Option<usize>
     ensures { result ≡ definition.choice_at (best_row best.now) from }
 {
@@ -116,7 +114,6 @@ fn first_best(best: &[bool]) -> usize
     number
 }
 
-#[tactic(auto, using(crate::proofs::Fits::fitted_past, crate::proofs::Fits::fitted_at))]
 fn fit(fits: &mut Vec<usize>, number: usize) -> Result<(), Memory>
     ensures { OnOk result (fits.new.items ≡ fitted number fits.old.items) }
 {
