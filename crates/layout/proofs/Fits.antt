@@ -36,8 +36,9 @@ pub zeros_most : (total width : ℕ) → AtMost total (replicate width 0)
 zeros_most total zero = tt
 zeros_most total (suc width) = (omega arith, zeros_most total width)
 
-pub opened_none : (width : ℕ) (fits all : List ℕ) → fits ≡ [] → all ≡ replicate width 0 → IsOpened width fits all
-opened_none width fits all none is total = (ap (costs_by total) is ∙ (zeros_cost total width ∙ ap (costs_of width total) (sym none)), λ most. subst (AtMost total) (sym is) (zeros_most total width))
+pub opened_none : (width : ℕ) (fits all : List ℕ) → length fits ≡ 0 → all ≡ replicate width 0 → IsOpened width fits all
+opened_none width [] all none is total = (ap (costs_by total) is ∙ zeros_cost total width, λ most. subst (AtMost total) (sym is) (zeros_most total width))
+opened_none width (f ∷ fs) all none is total = absurd (omega (arith, none))
 
 pub opened_some : (width : ℕ) (fits : List ℕ) → (fits ≡ [] → ⊥) → IsOpened width fits fits
 opened_some width [] some total = absurd (some refl)
@@ -253,7 +254,7 @@ best_penalties o width total fits all row self view kept same is e =
 
 first_one : (width : ℕ) → first_free (replicate width 1) ≡ width
 first_one zero = refl
-first_one (suc width) = ap suc (first_one width)
+first_one (suc width) = let f = first_one width in omega (arith, f)
 
 first_own : (width own : ℕ) → first_free (own_row width own) ≡ min own width
 first_own zero own = omega arith
