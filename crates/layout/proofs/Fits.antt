@@ -230,11 +230,6 @@ module _ (width total : ℕ) (fits was all row more : List ℕ) (count sum : ℕ
   opened : (costs_by total all ≡ costs_of width total fits) × AtMost total all
   opened = ((same total).0 ∙ ap (costs_of width total) is, (same total).1 (subst (AtMost total) (sym is) kept.at_most))
 
-  pub charged_is : costs_of count sum more ≡ added (costs_of width total fits) row
-  charged_is =
-      (λ i. costs_of (count_is i) (sum_is i) more)
-      ∙ (costs_same (total + 1) more ∙ (pays.paid total opened.1 ∙ ap (λ costs. added costs row) opened.0))
-
   pub charged_kept : IsKept count sum more
   charged_kept =
       subst (λ n. IsKept n sum more) (sym count_is) (subst (λ n. IsKept (length more) n more) (sym sum_is)

@@ -1,19 +1,19 @@
 -- What targets cost a place, and their penalties, as they are kept in memory.
---     costs_of width total fits      each costs the total, less the number of the places below that it fits
---     IsKept width total fits      what is known of them: of so many targets none fits more often than there are places
+--     costs_of width total fits      each target costs the total, less the number of the places below that it fits
+--     IsKept width total fits      of so many targets none fits more places than there are
 --     own_row width own      the penalties of so many targets, of which one fits alone
 --     best_row best      the penalties, where each is told to be best or not
 --     fitted number fits      the target with this number fits one more
 --     fitted_from number best fits      each best target fits one more
 --     ArePaid fits row more      a place with these penalties is counted
-use Rattle.std.specs.Prelude.{◌≡◌, ◌==◌, ◌≤◌, ◌+◌, ◌-◌, ℕ, zero, suc, max, Bool, cond, List, [], ◌∷◌, Option, Some, None, length, map, replicate}
+use Rattle.std.specs.Prelude.{◌≡◌, ◌==◌, ◌≤◌, ◌+◌, ◌-◌, ℕ, zero, suc, max, Bool, cond, List, [], ◌∷◌, Option, Some, None, length, replicate}
 use Rattle.layout.specs.Costs.{added}
 
 abbrev pub costs_by : ℕ → List ℕ → List ℕ
 costs_by total [] = []
 costs_by total (fit ∷ fits) = (total - fit) ∷ costs_by total fits
 
--- own: no list stands for one of nothing
+-- own: an empty list stands for one of zeros
 abbrev pub costs_of : ℕ → ℕ → List ℕ → List ℕ
 costs_of width total [] = replicate width total
 costs_of width total (fit ∷ fits) = costs_by total (fit ∷ fits)
@@ -22,7 +22,7 @@ abbrev pub AtMost : ℕ → List ℕ → Type 0
 AtMost total [] = Unit {0}
 AtMost total (fit ∷ fits) = (fit ≤ total) × AtMost total fits
 
--- own: the list stands for all of them, also where none stood for one of nothing
+-- own: the same with all zeros written out
 abbrev pub IsOpened : ℕ → List ℕ → List ℕ → Type 0
 IsOpened width fits all =
     (total : ℕ) → (costs_by total all ≡ costs_of width total fits) × (AtMost total fits → AtMost total all)

@@ -8,9 +8,9 @@ use std::alloc::{AllocError, Global};
 use std::marker::Model;
 use std::mem;
 
-/// What each target costs a place: the number of the places below that pay, less the number of them that it fits.
+/// What each target costs a place: the number of the places below it, less the number of those that the target fits.
 ///
-/// No list is made before one pays.
+/// No list is made before one of them pays.
 #[derive(Drop)]
 pub(crate) struct Costs {
     width: usize,
@@ -78,7 +78,7 @@ impl Costs {
     }
 }
 
-// A list, also where none stands for one of nothing.
+// The list with all zeros written out.
 #[tactic(auto, using(crate::proofs::Fits::opened_some))]
 fn opened(alloc: Global, fits: Vec<usize>, width: usize) -> Result<Vec<usize>, Memory>
     ensures { IfOk result (λ all. IsOpened width fits.items all.items) }

@@ -1,4 +1,3 @@
-use Rattle.std.proofs.Common.{rules}
 use Rattle.layout.proofs.Fits.{none_beyond, none_own, other_chosen}
 use Rattle.layout.proofs.penalty.other_than.Goals as goal
 
