@@ -3,11 +3,11 @@ use Rattle.std.proofs.Common.{refl, sym, ap, ◌∙◌, subst, arith}
 use Rattle.std.proofs.lemmas.Bool.{cases_Bool, cond-true, cond-false, eqb-true, eqb-false, eq-eqb, ne_eqb}
 use Rattle.std.proofs.lemmas.List.{length-replicate}
 use Rattle.std.proofs.lemmas.Option.{slice_get_past}
-use Rattle.std.specs.Prelude.{◌≡◌, ℕ, zero, suc, ◌<◌, ◌≤◌, ◌+◌, ◌-◌, ◌==◌, min, max, Bool, true, false, cond, List, [], ◌∷◌, Option, Some, None, length, take, set, get_or, replicate, slice_get}
+use Rattle.std.specs.Prelude.{◌≡◌, ◌⊎◌, ℕ, zero, suc, ◌<◌, ◌≤◌, ◌+◌, ◌-◌, ◌==◌, min, max, Bool, true, false, cond, List, [], ◌∷◌, Option, Some, None, length, take, set, get_or, replicate, slice_get}
 use mathlib.Core.Logic.{inl, inr}
 use Rattle.layout.specs.Choices.{first_free, free_or, choice_at}
 use Rattle.layout.specs.Costs.{added, least_from, least_of, more_than, other_than, penalties}
-use Rattle.layout.specs.Fits.{costs_by, costs_of, AtMost, IsOpened, IsKept, own_row, penalty_by, best_row, row_by, greatest_from, best_at, fitted, fitted_from, ArePaid}
+use Rattle.layout.specs.Fits.{costs_by, alone_fits, alone_by, all_fits, AtMost, IsKept, IsAlone, own_row, penalty_by, best_row, row_by, greatest_from, best_at, fitted, fitted_from, ArePaid}
 
 -- ---- costs
 
@@ -15,34 +15,59 @@ pub costs_count : (total : ℕ) (fits : List ℕ) → length (costs_by total fit
 costs_count total [] = refl
 costs_count total (f ∷ fs) = ap suc (costs_count total fs)
 
--- of the width of their list
-pub costs_same : (total : ℕ) (fits : List ℕ) → costs_of (length fits) total fits ≡ costs_by total fits
-costs_same total [] = refl
-costs_same total (f ∷ fs) = refl
-
 pub kept_of : (total : ℕ) (fits : List ℕ) → AtMost total fits → IsKept (length fits) total fits
-kept_of total fits most = record { at_most = most; count = ap length (costs_same total fits) ∙ costs_count total fits }
+kept_of total fits most = record { at_most = most; count = refl }
 
-pub kept_free : (width : ℕ) (fits : List ℕ) → fits ≡ [] → IsKept width 0 fits
-kept_free width fits none = subst (IsKept width 0) (sym none) (record { at_most = tt; count = length-replicate width 0 })
+zeros_cost : (width : ℕ) → costs_by 0 (replicate width 0) ≡ replicate width 0
+zeros_cost zero = refl
+zeros_cost (suc width) = λ i. 0 ∷ zeros_cost width i
 
-pub zeros_cost : (total width : ℕ) → costs_by total (replicate width 0) ≡ replicate width total
-zeros_cost total zero = refl
-zeros_cost total (suc width) =
-    let whole : total - 0 ≡ total = omega arith in
-    λ i. whole i ∷ zeros_cost total width i
-
-pub zeros_most : (total width : ℕ) → AtMost total (replicate width 0)
+zeros_most : (total width : ℕ) → AtMost total (replicate width 0)
 zeros_most total zero = tt
 zeros_most total (suc width) = (omega arith, zeros_most total width)
 
-pub opened_none : (width : ℕ) (fits all : List ℕ) → length fits ≡ 0 → all ≡ replicate width 0 → IsOpened width fits all
-opened_none width [] all none is total = (ap (costs_by total) is ∙ zeros_cost total width, λ most. subst (AtMost total) (sym is) (zeros_most total width))
-opened_none width (f ∷ fs) all none is total = absurd (omega (arith, none))
+pub free_is : (width : ℕ) (fits : List ℕ) → length fits ≡ 0 → costs_by 0 (all_fits width 0 None fits) ≡ replicate width 0
+free_is width [] none = zeros_cost width
+free_is width (f ∷ fs) none = absurd (omega (arith, none))
 
-pub opened_some : (width : ℕ) (fits : List ℕ) → (fits ≡ [] → ⊥) → IsOpened width fits fits
-opened_some width [] some total = absurd (some refl)
-opened_some width (f ∷ fs) some total = (refl, λ most. most)
+pub free_kept : (width : ℕ) (fits : List ℕ) → length fits ≡ 0 → IsKept width 0 (all_fits width 0 None fits)
+free_kept width [] none = record { at_most = zeros_most 0 width; count = length-replicate width 0 }
+free_kept width (f ∷ fs) none = absurd (omega (arith, none))
+
+-- ---- the list written out
+
+pub set_alone : (width number count : ℕ) (all : List ℕ) → all ≡ replicate width 0 → number < width → set all number count ≡ alone_fits width number count
+set_alone width number count all is l = ap (λ fs. set fs number count) is ∙ by width number l
+  where
+    by : (width number : ℕ) → number < width → set (replicate width 0) number count ≡ alone_fits width number count
+    by zero number l = absurd (omega (arith, l))
+    by (suc width) zero l = refl
+    by (suc width) (suc number) l = λ i. 0 ∷ by width number (omega (arith, l)) i
+
+pub past_alone : (width number count : ℕ) (all : List ℕ) → all ≡ replicate width 0 → width ≤ number → all ≡ alone_fits width number count
+past_alone width number count all is l = is ∙ by width number l
+  where
+    by : (width number : ℕ) → width ≤ number → replicate width 0 ≡ alone_fits width number count
+    by zero number l = refl
+    by (suc width) zero l = absurd (omega (arith, l))
+    by (suc width) (suc number) l = λ i. 0 ∷ by width number (omega (arith, l)) i
+
+pub set_by : (width number count : ℕ) (alone : Option ℕ) (all : List ℕ) → alone ≡ Some number → all ≡ replicate width 0 → number < width → set all number count ≡ alone_by width count alone
+set_by width number count alone all some is l = set_alone width number count all is l ∙ ap (alone_by width count) (sym some)
+
+pub past_by : (width number count : ℕ) (alone : Option ℕ) (all : List ℕ) → alone ≡ Some number → all ≡ replicate width 0 → width ≤ number → all ≡ alone_by width count alone
+past_by width number count alone all some is l = past_alone width number count all is l ∙ ap (alone_by width count) (sym some)
+
+pub none_by : (width count : ℕ) (alone : Option ℕ) (all : List ℕ) → alone ≡ None → all ≡ replicate width 0 → all ≡ alone_by width count alone
+none_by width count alone all none is = is ∙ ap (alone_by width count) (sym none)
+
+pub opened_none : (width total : ℕ) (alone : Option ℕ) (fits all : List ℕ) → length fits ≡ 0 → all ≡ alone_by width total alone → all ≡ all_fits width total alone fits
+opened_none width total alone [] all none is = is
+opened_none width total alone (f ∷ fs) all none is = absurd (omega (arith, none))
+
+pub opened_some : (width total : ℕ) (alone : Option ℕ) (fits : List ℕ) → (fits ≡ [] → ⊥) → fits ≡ all_fits width total alone fits
+opened_some width total alone [] some = absurd (some refl)
+opened_some width total alone (f ∷ fs) some = refl
 
 -- ---- the row of a target of its own
 
@@ -61,8 +86,8 @@ own_from (suc j) number own (c ∷ costs) e =
     let here : penalty_by (number == own) ≡ 1 = cond-false (number == own) 0 1 (ne_eqb number own (λ f. omega (arith, e, f))) in
     λ i. here i ∷ own_from j (number + 1) own costs (omega (arith, e)) i
 
-pub own_is : (width total own : ℕ) (fits : List ℕ) → IsKept width total fits → own_row width own ≡ other_than own 0 (costs_of width total fits)
-own_is width total own fits kept = sym (own_from own 0 own (costs_of width total fits) (omega arith) ∙ ap (λ n. own_row n own) kept.count)
+own_is : (width total own : ℕ) (fits : List ℕ) → length fits ≡ width → own_row width own ≡ other_than own 0 (costs_by total fits)
+own_is width total own fits count = sym (own_from own 0 own (costs_by total fits) (omega arith) ∙ ap (λ n. own_row n own) (costs_count total fits ∙ count))
 
 -- ---- the row of the best
 
@@ -95,9 +120,35 @@ best_by total (f ∷ fs) most =
     ∙ best_more total (greatest_from f fs) (f ∷ fs) (greatest_most total f fs most.0 most.1) most
     ∙ ap (λ n. more_than n (costs_by total (f ∷ fs))) (sym least)
 
-pub best_is : (width total : ℕ) (fits all : List ℕ) → IsKept width total fits → IsOpened width fits all → best_row (best_at (greatest_from 0 all) all) ≡ more_than (least_of (costs_of width total fits)) (costs_of width total fits)
-best_is width total fits all kept same =
-    best_by total all ((same total).1 kept.at_most) ∙ ap (λ costs. more_than (least_of costs) costs) (same total).0
+-- one fits all places below
+greatest_zeros : (greatest width : ℕ) → greatest_from greatest (replicate width 0) ≡ greatest
+greatest_zeros greatest zero = refl
+greatest_zeros greatest (suc width) =
+    let same : max greatest 0 ≡ greatest = omega arith in
+    ap (λ g. greatest_from g (replicate width 0)) same ∙ greatest_zeros greatest width
+
+greatest_alone : (greatest width number count : ℕ) → greatest ≤ count → number < width → greatest_from greatest (alone_fits width number count) ≡ count
+greatest_alone greatest zero number count l m = absurd (omega (arith, m))
+greatest_alone greatest (suc width) zero count l m =
+    let same : max greatest count ≡ count = omega (arith, l) in
+    ap (λ g. greatest_from g (replicate width 0)) same ∙ greatest_zeros count width
+greatest_alone greatest (suc width) (suc number) count l m =
+    greatest_alone (max greatest 0) width number count (omega (arith, l)) (omega (arith, m))
+
+zeros_row : (width count : ℕ) → 0 < count → replicate width 1 ≡ best_row (best_at count (replicate width 0))
+zeros_row zero count l = refl
+zeros_row (suc width) count l =
+    let here : penalty_by (0 == count) ≡ 1 = cond-false (0 == count) 0 1 (ne_eqb 0 count (λ e. omega (arith, e, l))) in
+    λ i. sym here i ∷ zeros_row width count l i
+
+alone_row : (width number count : ℕ) → number < width → 0 < count → own_row width number ≡ best_row (best_at count (alone_fits width number count))
+alone_row zero number count m l = absurd (omega (arith, m))
+alone_row (suc width) zero count m l =
+    let here : penalty_by (count == count) ≡ 0 = cond-true (count == count) 0 1 (eq-eqb count count refl) in
+    λ i. sym here i ∷ zeros_row width count l i
+alone_row (suc width) (suc number) count m l =
+    let here : penalty_by (0 == count) ≡ 1 = cond-false (0 == count) 0 1 (ne_eqb 0 count (λ e. omega (arith, e, l))) in
+    λ i. sym here i ∷ alone_row width number count (omega (arith, m)) l i
 
 -- ---- what a row changes
 
@@ -226,24 +277,97 @@ best_pays o width best fits more row view is e =
 
 -- ---- a place is charged
 
-module _ (width total : ℕ) (fits was all row more : List ℕ) (count sum : ℕ) (kept : IsKept width total fits) (same : IsOpened width was all) (is : was ≡ fits) (pays : ArePaid all row more) (count_is : count ≡ length more) (sum_is : sum ≡ total + 1) where
-  opened : (costs_by total all ≡ costs_of width total fits) × AtMost total all
-  opened = ((same total).0 ∙ ap (costs_of width total) is, (same total).1 (subst (AtMost total) (sym is) kept.at_most))
+pub charged_is : (total : ℕ) (all row more : List ℕ) (none : Option ℕ) (count sum : ℕ) → AtMost total all → ArePaid all row more → count ≡ length more → sum ≡ total + 1 → none ≡ None → costs_by sum (all_fits count sum none more) ≡ added (costs_by total all) row
+charged_is total all row more none count sum most pays count_is sum_is none_is =
+    (λ i. costs_by (sum_is i) ((ap (λ n. all_fits n sum none more) count_is ∙ (ap (λ o. all_fits (length more) sum o more) none_is ∙ by more)) i)) ∙ pays.paid total most
+  where
+    by : (more : List ℕ) → all_fits (length more) sum None more ≡ more
+    by [] = refl
+    by (f ∷ fs) = refl
 
-  pub charged_kept : IsKept count sum more
-  charged_kept =
-      subst (λ n. IsKept n sum more) (sym count_is) (subst (λ n. IsKept (length more) n more) (sym sum_is)
-      (kept_of (total + 1) more (pays.at_most total opened.1)))
+pub charged_kept : (total : ℕ) (all row more : List ℕ) (none : Option ℕ) (count sum : ℕ) → AtMost total all → ArePaid all row more → count ≡ length more → sum ≡ total + 1 → none ≡ None → IsKept count sum (all_fits count sum none more)
+charged_kept total all row more none count sum most pays count_is sum_is none_is =
+    subst (IsKept count sum) (sym (ap (λ n. all_fits n sum none more) count_is ∙ (ap (λ o. all_fits (length more) sum o more) none_is ∙ by more)))
+    (subst (λ n. IsKept n sum more) (sym count_is) (subst (λ n. IsKept (length more) n more) (sym sum_is) (kept_of (total + 1) more (pays.at_most total most))))
+  where
+    by : (more : List ℕ) → all_fits (length more) sum None more ≡ more
+    by [] = refl
+    by (f ∷ fs) = refl
+
+-- one target fits one place more
+alone_none : (width number : ℕ) → replicate width 0 ≡ alone_fits width number 0
+alone_none zero number = refl
+alone_none (suc width) zero = refl
+alone_none (suc width) (suc number) = λ i. 0 ∷ alone_none width number i
+
+was_alone : (width total own : ℕ) (alone : Option ℕ) (fits : List ℕ) → length fits ≡ 0 → (total ≡ 0) ⊎ (alone ≡ Some own) → all_fits width total alone fits ≡ alone_fits width own total
+was_alone width total own alone (f ∷ fs) none is = absurd (omega (arith, none))
+was_alone width total own alone [] none (inr is) = ap (alone_by width total) is
+was_alone width total own alone [] none (inl is) = ap (λ n. alone_by width n alone) is ∙ (by alone ∙ (alone_none width own ∙ ap (alone_fits width own) (sym is)))
+  where
+    by : (alone : Option ℕ) → alone_by width 0 alone ≡ replicate width 0
+    by None = refl
+    by (Some number) = sym (alone_none width number)
+
+ones_more : (total width : ℕ) → costs_by (total + 1) (replicate width 0) ≡ added (costs_by total (replicate width 0)) (replicate width 1)
+ones_more total zero = refl
+ones_more total (suc width) =
+    let here : (total + 1) - 0 ≡ (total - 0) + 1 = omega arith in
+    λ i. here i ∷ ones_more total width i
+
+alone_more : (width own total : ℕ) → costs_by (total + 1) (alone_fits width own (total + 1)) ≡ added (costs_by total (alone_fits width own total)) (own_row width own)
+alone_more zero own total = refl
+alone_more (suc width) zero total =
+    let here : (total + 1) - (total + 1) ≡ (total - total) + 0 = omega arith in
+    λ i. here i ∷ ones_more total width i
+alone_more (suc width) (suc own) total =
+    let here : (total + 1) - 0 ≡ (total - 0) + 1 = omega arith in
+    λ i. here i ∷ alone_more width own total i
+
+alone_most : (width own total : ℕ) → AtMost total (alone_fits width own total)
+alone_most zero own total = tt
+alone_most (suc width) zero total = (omega arith, zeros_most total width)
+alone_most (suc width) (suc own) total = (omega arith, alone_most width own total)
+
+alone_count : (width own total : ℕ) → length (alone_fits width own total) ≡ width
+alone_count zero own total = refl
+alone_count (suc width) zero total = ap suc (length-replicate width 0)
+alone_count (suc width) (suc own) total = ap suc (alone_count width own total)
+
+module _ (width total own sum : ℕ) (alone now : Option ℕ) (fits : List ℕ) (none : length fits ≡ 0) (now_is : now ≡ Some own) (sum_is : sum ≡ total + 1) where
+  still : all_fits width sum now fits ≡ alone_fits width own (total + 1)
+  still = was_alone width sum own now fits none (inr now_is) ∙ ap (alone_fits width own) sum_is
+
+  pub stands_kept : IsKept width sum (all_fits width sum now fits)
+  stands_kept =
+      subst (IsKept width sum) (sym still) (subst (λ n. IsKept width n (alone_fits width own (total + 1))) (sym sum_is)
+      (record { at_most = alone_most width own (total + 1); count = alone_count width own (total + 1) }))
+
+  pub stands_is : (row : List ℕ) → (total ≡ 0) ⊎ (alone ≡ Some own) → row ≡ own_row width own → costs_by sum (all_fits width sum now fits) ≡ added (costs_by total (all_fits width total alone fits)) row
+  stands_is row is row_is =
+      (λ i. costs_by (sum_is i) (still i)) ∙ (alone_more width own total ∙ (λ i. added (costs_by total (sym (was_alone width total own alone fits none is) i)) (sym row_is i)))
 
 -- ---- penalties
 
-pub own_penalties : (o : Option ℕ) (width total own : ℕ) (fits row self : List ℕ) → costs_of width total fits ≡ self → IsKept width total fits → o ≡ Some own → row ≡ own_row width own → row ≡ penalties o self
+pub own_penalties : (o : Option ℕ) (width total own : ℕ) (fits row self : List ℕ) → costs_by total fits ≡ self → IsKept width total fits → o ≡ Some own → row ≡ own_row width own → row ≡ penalties o self
 own_penalties o width total own fits row self view kept is e =
-    e ∙ (own_is width total own fits kept ∙ ((λ i. penalties (Some own) (view i)) ∙ (λ i. penalties (sym is i) self)))
+    e ∙ (own_is width total own fits kept.count ∙ ((λ i. penalties (Some own) (view i)) ∙ (λ i. penalties (sym is i) self)))
 
-pub best_penalties : (o : Option ℕ) (width total : ℕ) (fits all row self : List ℕ) → costs_of width total fits ≡ self → IsKept width total fits → IsOpened width fits all → o ≡ None → row ≡ best_row (best_at (greatest_from 0 all) all) → row ≡ penalties o self
-best_penalties o width total fits all row self view kept same is e =
-    e ∙ (best_is width total fits all kept same ∙ ((λ i. penalties None (view i)) ∙ (λ i. penalties (sym is i) self)))
+pub free_penalties : (o : Option ℕ) (total : ℕ) (all row self : List ℕ) → costs_by total all ≡ self → o ≡ None → row ≡ more_than (least_of (costs_by total all)) (costs_by total all) → row ≡ penalties o self
+free_penalties o total all row self view is e = e ∙ ((λ i. penalties None (view i)) ∙ (λ i. penalties (sym is i) self))
+
+pub best_free : (total : ℕ) (all fits row : List ℕ) → all ≡ fits → row ≡ best_row (best_at (greatest_from 0 all) all) → AtMost total fits → row ≡ more_than (least_of (costs_by total fits)) (costs_by total fits)
+best_free total all fits row same is most = is ∙ (ap (λ fs. best_row (best_at (greatest_from 0 fs) fs)) same ∙ best_by total fits most)
+
+pub alone_free : (width total number : ℕ) (alone : Option ℕ) (fits row : List ℕ) → IsAlone width total alone fits number → row ≡ own_row width number → AtMost total (all_fits width total alone fits)
+    → row ≡ more_than (least_of (costs_by total (all_fits width total alone fits))) (costs_by total (all_fits width total alone fits))
+alone_free width total number alone fits row is e most =
+    let same = was_alone width total number alone fits is.none (inr is.alone_is) in
+    let greatest = greatest_alone 0 width number total (omega arith) is.within in
+    e ∙ (alone_row width number total is.within is.some
+    ∙ (ap (λ g. best_row (best_at g (alone_fits width number total))) (sym greatest)
+    ∙ (ap (λ fs. best_row (best_at (greatest_from 0 fs) fs)) (sym same)
+    ∙ best_by total (all_fits width total alone fits) most)))
 
 -- ---- what a row chooses
 

@@ -1,4 +1,4 @@
-ghost use Rattle.std.specs.Prelude.{◌≡◌, IfOk, OnOk};
+ghost use Rattle.std.specs.Prelude.{◌≡◌, IfOk, IfSome, OnOk};
 ghost use Rattle.layout.specs.Choices as definition;
 ghost use Rattle.layout.specs.Fits.{own_row, best_row, fitted, fitted_from, ArePaid};
 
@@ -56,6 +56,13 @@ impl Penalties {
             Some(own) => other_than(self.width, own, from),
             None => other_than_best(self.best.as_slice(), from),
         }
+    }
+
+    /// The number of the target that fits alone, of so many.
+    pub(crate) fn alone_of(&self, width: usize) -> Option<usize>
+        ensures { IfSome result (λ own. self.now ≡ own_row width own) }
+    {
+        if self.width == width { self.own } else { None }
     }
 
     /// Each target that is best fits one more.
