@@ -52,11 +52,11 @@ past_alone width number count all is l = is ∙ by width number l
     by (suc width) zero l = absurd (omega (arith, l))
     by (suc width) (suc number) l = λ i. 0 ∷ by width number (omega (arith, l)) i
 
-pub set_by : (width number count : ℕ) (alone : Option ℕ) (all : List ℕ) → alone ≡ Some number → all ≡ replicate width 0 → number < width → set all number count ≡ alone_by width count alone
-set_by width number count alone all some is l = set_alone width number count all is l ∙ ap (alone_by width count) (sym some)
+pub set_by : (width number count : ℕ) (alone : Option ℕ) (all now : List ℕ) → now ≡ set all number count → alone ≡ Some number → all ≡ replicate width 0 → number < width → now ≡ alone_by width count alone
+set_by width number count alone all now put some is l = put ∙ (set_alone width number count all is l ∙ ap (alone_by width count) (sym some))
 
-pub past_by : (width number count : ℕ) (alone : Option ℕ) (all : List ℕ) → alone ≡ Some number → all ≡ replicate width 0 → width ≤ number → all ≡ alone_by width count alone
-past_by width number count alone all some is l = past_alone width number count all is l ∙ ap (alone_by width count) (sym some)
+pub past_by : (width number count : ℕ) (alone : Option ℕ) (all now : List ℕ) → now ≡ all → alone ≡ Some number → all ≡ replicate width 0 → width ≤ number → now ≡ alone_by width count alone
+past_by width number count alone all now same some is l = same ∙ (past_alone width number count all is l ∙ ap (alone_by width count) (sym some))
 
 pub none_by : (width count : ℕ) (alone : Option ℕ) (all : List ℕ) → alone ≡ None → all ≡ replicate width 0 → all ≡ alone_by width count alone
 none_by width count alone all none is = is ∙ ap (alone_by width count) (sym none)
@@ -277,14 +277,6 @@ best_pays o width best fits more row view is e =
 
 -- ---- a place is charged
 
-pub charged_is : (total : ℕ) (all row more : List ℕ) (none : Option ℕ) (count sum : ℕ) → AtMost total all → ArePaid all row more → count ≡ length more → sum ≡ total + 1 → none ≡ None → costs_by sum (all_fits count sum none more) ≡ added (costs_by total all) row
-charged_is total all row more none count sum most pays count_is sum_is none_is =
-    (λ i. costs_by (sum_is i) ((ap (λ n. all_fits n sum none more) count_is ∙ (ap (λ o. all_fits (length more) sum o more) none_is ∙ by more)) i)) ∙ pays.paid total most
-  where
-    by : (more : List ℕ) → all_fits (length more) sum None more ≡ more
-    by [] = refl
-    by (f ∷ fs) = refl
-
 pub charged_kept : (total : ℕ) (all row more : List ℕ) (none : Option ℕ) (count sum : ℕ) → AtMost total all → ArePaid all row more → count ≡ length more → sum ≡ total + 1 → none ≡ None → IsKept count sum (all_fits count sum none more)
 charged_kept total all row more none count sum most pays count_is sum_is none_is =
     subst (IsKept count sum) (sym (ap (λ n. all_fits n sum none more) count_is ∙ (ap (λ o. all_fits (length more) sum o more) none_is ∙ by more)))
@@ -352,9 +344,6 @@ module _ (width total own sum : ℕ) (alone now : Option ℕ) (fits : List ℕ) 
 pub own_penalties : (o : Option ℕ) (width total own : ℕ) (fits row self : List ℕ) → costs_by total fits ≡ self → IsKept width total fits → o ≡ Some own → row ≡ own_row width own → row ≡ penalties o self
 own_penalties o width total own fits row self view kept is e =
     e ∙ (own_is width total own fits kept.count ∙ ((λ i. penalties (Some own) (view i)) ∙ (λ i. penalties (sym is i) self)))
-
-pub free_penalties : (o : Option ℕ) (total : ℕ) (all row self : List ℕ) → costs_by total all ≡ self → o ≡ None → row ≡ more_than (least_of (costs_by total all)) (costs_by total all) → row ≡ penalties o self
-free_penalties o total all row self view is e = e ∙ ((λ i. penalties None (view i)) ∙ (λ i. penalties (sym is i) self))
 
 pub best_free : (total : ℕ) (all fits row : List ℕ) → all ≡ fits → row ≡ best_row (best_at (greatest_from 0 all) all) → AtMost total fits → row ≡ more_than (least_of (costs_by total fits)) (costs_by total fits)
 best_free total all fits row same is most = is ∙ (ap (λ fs. best_row (best_at (greatest_from 0 fs) fs)) same ∙ best_by total fits most)

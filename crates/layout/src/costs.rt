@@ -170,7 +170,7 @@ fn opened(
     Ok(fits)
 }
 
-#[tactic(auto, using(crate::proofs::Fits::none_by, crate::proofs::Fits::set_by, crate::proofs::Fits::past_by))]
+#[tactic(auto, using(crate::proofs::Fits::none_by))]
 fn unlisted(
     alloc: Global,
     width: usize,
