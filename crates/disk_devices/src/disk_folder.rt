@@ -18,8 +18,9 @@ const DRAFTS: u8 = 100;
 
 /// A folder of the disk with all below it. It tells nothing of what it holds.
 ///
-/// A link isn't followed: a look at one, or past one, fails. A folder on the way to a file is judged once between
-/// writes, so a link that takes its place after that goes unseen, and so does what is put where nothing stood.
+/// A link isn't followed: a look at one, or past one, fails. A folder on the way to a file is judged once by the looks
+/// between two writes, and once by the writes between two looks, so a link that takes its place after that goes unseen,
+/// and so does what is put where nothing stood.
 #[derive(Drop)]
 pub struct DiskFolder<'a, R> {
     disk: Disk<'a, R>,
@@ -37,6 +38,7 @@ impl<'a, R> DiskFolder<'a, R> {
                 alloc,
                 root,
                 ways: HashMap::new(alloc),
+                writes: false,
             },
             look_faults: 0,
             write_faults: 0,
@@ -120,6 +122,8 @@ struct Disk<'a, R> {
     root: &'a str,
     /// Names below the root, and whether a folder stands there, and above it folders alone.
     ways: HashMap<String, bool>,
+    /// Whether that was found by writes alone, with no look behind the first of them.
+    writes: bool,
 }
 
 impl<'a, R> Disk<'a, R> {
@@ -141,6 +145,7 @@ impl<'a, R> Disk<'a, R> {
 impl<'a, R: Files> Disk<'a, R> {
     /// What stands at a path, where a file may have at most `limit` bytes.
     fn look(&mut self, alloc: Global, path: &str, limit: u64) -> Result<Look, Obstacle> {
+        self.writes = false;
         let name = self.name_of(alloc, path)?;
         if !self.reaches(above(name.as_str()))? {
             return Ok(Look::Absent);
@@ -167,12 +172,12 @@ impl<'a, R: Files> Disk<'a, R> {
         let alloc = self.alloc;
         let goal = self.name_of(alloc, path)?;
         let above = above(goal.as_str());
-        // A write judges each folder on its way anew, and what it makes was absent before.
-        self.ways.clear();
-        if !self.reaches(above)? {
+        if !self.writes {
+            // The first write behind a look judges each folder on its way anew.
             self.ways.clear();
-            fs::create_dir_all(&self.rt, above)?;
+            self.writes = true;
         }
+        self.make_folder(above)?;
         if let Standing::Folder = self.standing(goal.as_str())? {
             return Err(Obstacle::from(io::Error::from(ErrorKind::IsADirectory)));
         }
@@ -214,6 +219,28 @@ impl<'a, R: Files> Disk<'a, R> {
                 _ => Err(Obstacle::from(fault)),
             },
         }
+    }
+
+    /// Makes the folder of this name and those above it where nothing stands.
+    fn make_folder(&mut self, name: &str) -> Result<(), Obstacle> {
+        if name.len() <= self.root.len() {
+            return Ok(());
+        }
+        if let Some(is_reached) = self.ways.get(name) {
+            if *is_reached {
+                return Ok(());
+            }
+        }
+        self.make_folder(above(name))?;
+        match self.standing(name)? {
+            Standing::Folder => {}
+            Standing::Absent => fs::create_dir(&self.rt, name)?,
+            Standing::File(_) => {
+                return Err(Obstacle::from(io::Error::from(ErrorKind::NotADirectory)));
+            }
+        }
+        self.keep(String::from_str(self.alloc, name)?, true)?;
+        Ok(())
     }
 
     /// Whether a folder stands under a name, and above it, from the root folder on, folders alone.
