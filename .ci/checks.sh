@@ -75,8 +75,8 @@ vendored() {
     (cd "$kept/vendored" && "$program" vendor /new/out >"$kept/out") && echo 'vendored 14 files' | diff - "$kept/out" || return 1
     (cd "$kept/vendored/new/out" && find . -type f | sort) >"$kept/copied"
     (cd examples/packages && find . -type f ! -name server.js ! -name index.html ! -name 'importmap*' | sort) | diff - "$kept/copied" || return 1
-    while read -r name; do
-        cmp "examples/packages/$name" "$kept/vendored/new/out/$name" || return 1
+    while read -r copy; do
+        cmp "examples/packages/$copy" "$kept/vendored/new/out/$copy" || return 1
     done <"$kept/copied"
     (cd "$kept/vendored/new/out" && "$program" link --base https://app.test/ ./app.js >"$kept/out") &&
         cmp "$kept/packages/importmap.json" "$kept/vendored/new/out/importmap.json" || return 1
