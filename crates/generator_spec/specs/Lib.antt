@@ -8,6 +8,7 @@ pub mod Serves
 pub mod Lines
 pub mod Checking
 pub mod Listing
+pub mod Strictness
 pub mod Explaining
 pub mod Vendoring
 pub mod Outcome

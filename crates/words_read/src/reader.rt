@@ -33,8 +33,13 @@ fn reading_of(words: &[String]) -> Option<Command<'_>>
     if command == "why" {
         return why_of(rest);
     }
+<<<<<<< ours
     if command == "vendor" {
         return vendor_of(rest);
+=======
+    if command == "check" {
+        return check_of(rest);
+>>>>>>> theirs
     }
     if !rest.is_empty() {
         return None;
@@ -82,6 +87,7 @@ fn why_of(words: &[String]) -> Option<Command<'_>>
     Some(Command::Why(path.as_str()))
 }
 
+<<<<<<< ours
 fn vendor_of(words: &[String]) -> Option<Command<'_>>
     ensures { option_map shown result ≡ reading.path_reading vendoring (map string_bytes words.now) }
 {
@@ -90,6 +96,21 @@ fn vendor_of(words: &[String]) -> Option<Command<'_>>
         return None;
     }
     Some(Command::Vendor(path.as_str()))
+=======
+fn check_of(words: &[String]) -> Option<Command<'_>>
+    ensures { option_map shown result ≡ reading.check_reading (map string_bytes words.now) }
+{
+    match words.split_first() {
+        None => Some(Command::Check),
+        Some((word, rest)) => {
+            if rest.is_empty() && word.as_str() == "--strict" {
+                Some(Command::CheckStrictly)
+            } else {
+                None
+            }
+        }
+    }
+>>>>>>> theirs
 }
 
 fn plain_command(command: &str) -> Option<Command<'_>>
@@ -97,8 +118,6 @@ fn plain_command(command: &str) -> Option<Command<'_>>
 {
     if command == "refresh" {
         Some(Command::Refresh)
-    } else if command == "check" {
-        Some(Command::Check)
     } else if command == "list" {
         Some(Command::List)
     } else if command == "inject" {
