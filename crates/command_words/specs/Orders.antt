@@ -17,11 +17,7 @@ use Rattle.config_spec.specs.Words.{Settings, Sets, no_settings, command_of, opt
 use Rattle.config_spec.specs.Words.{IsSession}
 use Rattle.project_spec.specs.ProjectFiles.{IsPagePath}
 use Rattle.words_spec.specs.PlainWords.{Asked, Asks, LinkOptions, linking, unlinking, refreshing, checking, listing}
-<<<<<<< ours
-use Rattle.words_spec.specs.PlainWords.{injecting, editing, explaining, vendoring, measuring}
-=======
-use Rattle.words_spec.specs.PlainWords.{checking_strictly, injecting, editing, explaining, measuring}
->>>>>>> theirs
+use Rattle.words_spec.specs.PlainWords.{checking_strictly, injecting, editing, explaining, vendoring, measuring}
 use Rattle.command_words.specs.declared.order.Order.{Order}
 use Rattle.command_words.specs.declared.order.Order.TheVariants.{Link, Unlink, Refresh, Check, CheckStrictly, Inject}
 use Rattle.command_words.specs.declared.order.Order.TheVariants as order

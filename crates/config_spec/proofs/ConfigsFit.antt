@@ -20,11 +20,7 @@ use Rattle.url_spec.specs.Bases.{IsBase}
 use Rattle.node_spec.specs.Conditions.{AreConditions}
 use Rattle.trace_spec.specs.Modules.{Config}
 use Rattle.words_spec.specs.PlainWords.{Asked, Asks, LinkOptions, no_options, linking, unlinking, refreshing, checking}
-<<<<<<< ours
-use Rattle.words_spec.specs.PlainWords.{listing, injecting, editing, explaining, vendoring, measuring}
-=======
-use Rattle.words_spec.specs.PlainWords.{checking_strictly, listing, injecting, editing, explaining, measuring}
->>>>>>> theirs
+use Rattle.words_spec.specs.PlainWords.{checking_strictly, listing, injecting, editing, explaining, vendoring, measuring}
 use Rattle.project_spec.proofs.ReadBack.{read_projects}
 use Rattle.project_spec.specs.ProjectFiles as project
 use Rattle.project_spec.specs.ProjectFiles.{IsPagePath, IsProject, ReadsProject}

@@ -15,11 +15,7 @@ use Rattle.tree_spec.specs.declared.LimitName.TheVariants.{Entries}
 use Rattle.tree_spec.proofs.FootprintSets.{distinct_none}
 use Rattle.trace_spec.specs.Modules.{Config}
 use Rattle.words_spec.specs.PlainWords.{Asked, Asks, LinkOptions, linking, unlinking, refreshing, checking}
-<<<<<<< ours
-use Rattle.words_spec.specs.PlainWords.{listing, injecting, editing, explaining, vendoring, measuring}
-=======
-use Rattle.words_spec.specs.PlainWords.{checking_strictly, listing, injecting, editing, explaining, measuring}
->>>>>>> theirs
+use Rattle.words_spec.specs.PlainWords.{checking_strictly, listing, injecting, editing, explaining, vendoring, measuring}
 use Rattle.project_spec.specs.ProjectFiles as project
 use Rattle.project_spec.specs.ProjectFiles.{BadFile, Gives, PassesLimit, ReadsProject, reads_project, many_entries}
 use Rattle.project_spec.specs.ProjectFiles.{no_project, no_json, deep_json}

@@ -10,11 +10,7 @@ use Rattle.project_spec.specs.ProjectFiles.{IsPagePath}
 use Rattle.words_spec.proofs.PlainIsRead.{one_asked, plain_is_read}
 use Rattle.words_spec.proofs.ReadIsPlain.{read_is_plain}
 use Rattle.words_spec.specs.PlainWords.{Asked, Asks, linking, unlinking, refreshing, checking, listing, injecting}
-<<<<<<< ours
-use Rattle.words_spec.specs.PlainWords.{editing, explaining, vendoring, measuring}
-=======
-use Rattle.words_spec.specs.PlainWords.{checking_strictly, editing, explaining, measuring}
->>>>>>> theirs
+use Rattle.words_spec.specs.PlainWords.{checking_strictly, editing, explaining, vendoring, measuring}
 use Rattle.words_spec.specs.Reading.{reading_of}
 use Rattle.config_spec.proofs.Options.{one_options_fault, set_or_fault, set_or_refused}
 use Rattle.config_spec.specs.Laws.{WordsAreJudged}

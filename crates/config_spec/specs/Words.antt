@@ -20,15 +20,10 @@ use Rattle.url_spec.specs.PathTests.{is_path}
 use Rattle.node_spec.specs.Conditions.{AreConditions, names_in}
 use Rattle.project_spec.specs.ProjectFiles.{IsPagePath}
 use Rattle.words_spec.specs.PlainWords.{Asked, Asks, LinkOptions, no_options, linking, unlinking, refreshing, checking}
-<<<<<<< ours
-use Rattle.words_spec.specs.PlainWords.{listing, injecting, editing, explaining, vendoring, measuring}
-use Rattle.config_spec.specs.declared.Command.{Command}
-use Rattle.config_spec.specs.declared.Command.TheVariants.{Link, Unlink, Refresh, Inject, Check, Why, Vendor}
-=======
-use Rattle.words_spec.specs.PlainWords.{checking_strictly, listing, injecting, editing, explaining, measuring}
+use Rattle.words_spec.specs.PlainWords.{checking_strictly, listing, injecting, editing, explaining, vendoring, measuring}
 use Rattle.config_spec.specs.declared.Command.{Command}
 use Rattle.config_spec.specs.declared.Command.TheVariants.{Link, Unlink, Refresh, Inject, Check, CheckStrictly, Why}
->>>>>>> theirs
+use Rattle.config_spec.specs.declared.Command.TheVariants.{Vendor}
 use Rattle.config_spec.specs.declared.Command.TheVariants.{List as Lists}
 use Rattle.config_spec.specs.declared.ConfigFault.{ConfigFault}
 use Rattle.config_spec.specs.declared.ConfigFault.TheVariants.{BadBase, BadPath, BadConditions}

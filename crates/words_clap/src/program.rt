@@ -123,9 +123,6 @@ fn entries<'a>(alloc: Global, about: &'a str) -> Arg<'a>
         .help(about)
 }
 
-<<<<<<< ours
-fn path<'a>(alloc: Global, about: &'a str) -> Arg<'a>
-=======
 fn strict<'a>(alloc: Global) -> Arg<'a>
     ensures rule { rule_of result ≡ strict_rule }
     ensures local { result.global ≡ false }
@@ -136,8 +133,7 @@ fn strict<'a>(alloc: Global) -> Arg<'a>
         .help(help::STRICT)
 }
 
-fn path<'a>(alloc: Global) -> Arg<'a>
->>>>>>> theirs
+fn path<'a>(alloc: Global, about: &'a str) -> Arg<'a>
     ensures rule { rule_of result ≡ path_rule }
     ensures local { result.global ≡ false }
 {

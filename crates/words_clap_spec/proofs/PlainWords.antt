@@ -9,11 +9,7 @@ use Rattle.std.specs.Int.Digits.{digits_of}
 use Rattle.std.specs.List.{All, fold, list_all}
 use Rattle.std.proofs.Common.{◌≡◌, ◌≢◌, ◌<◌, ◌+◌, ◌&&◌, ℕ, List, [], ◌∷◌, ◌++◌, append-nil, append_assoc, codes, length, map, Option, Some, true, false, is_some, refl, sym, ap, ap₂, ◌∙◌, subst, arith}
 use Rattle.std.proofs.lemmas.Fmt.{decimal-digits_of, decimal_nonempty}
-<<<<<<< ours
-use Rattle.words_spec.specs.PlainWords.{Asked, Asks, IsValue, LinkOptions, LinkWords, no_options, linking, unlinking, explaining, vendoring, measuring, link, unlink, refresh, check, list, inject, session, why, vendor, measure}
-=======
-use Rattle.words_spec.specs.PlainWords.{Asked, Asks, IsValue, LinkOptions, LinkWords, no_options, linking, unlinking, explaining, measuring, link, unlink, refresh, check, check_strictly, list, inject, session, why, measure}
->>>>>>> theirs
+use Rattle.words_spec.specs.PlainWords.{Asked, Asks, IsValue, LinkOptions, LinkWords, no_options, linking, unlinking, explaining, vendoring, measuring, link, unlink, refresh, check, check_strictly, list, inject, session, why, vendor, measure}
 use Rattle.words_clap_spec.specs.Holding.{Holds, HoldsLink, row}
 use Rattle.words_clap_spec.specs.Laws.{HelpIsAskedFor, PlainWordsAreHeld, PlainWordsPass, ProgramIsSimple}
 use Rattle.words_clap_spec.specs.Program.{program}

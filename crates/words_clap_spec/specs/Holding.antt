@@ -16,15 +16,9 @@ use Rattle.std.specs.Prelude.{◌≡◌, ℕ, List, [], ◌∷◌, codes, Bool, 
 use Rattle.std.specs.Prelude.{if◌then◌else◌, option_map}
 use Rattle.words_spec.specs.declared.LinkOption.{LinkOption}
 use Rattle.words_spec.specs.declared.LinkOption.TheVariants.{Base, Page, Conditions}
-<<<<<<< ours
-use Rattle.words_spec.specs.PlainWords.{Asked, LinkOptions, value_of, linking, unlinking, refreshing, checking, listing}
-use Rattle.words_spec.specs.PlainWords.{injecting, editing, explaining, vendoring, measuring}
-use Rattle.words_clap_spec.specs.Program.{entries_rule}
-=======
 use Rattle.words_spec.specs.PlainWords.{Asked, LinkOptions, value_of, linking, unlinking, refreshing, checking}
-use Rattle.words_spec.specs.PlainWords.{checking_strictly, listing, injecting, editing, explaining, measuring}
+use Rattle.words_spec.specs.PlainWords.{checking_strictly, listing, injecting, editing, explaining, vendoring, measuring}
 use Rattle.words_clap_spec.specs.Program.{entries_rule, strict_rule}
->>>>>>> theirs
 
 -- values are read as the texts that they are
 abbrev pub as_text : Reading

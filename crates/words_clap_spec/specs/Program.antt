@@ -58,10 +58,5 @@ program =
     with_subcommand (with_subcommand (with_subcommand (with_subcommand (with_subcommand (with_subcommand
     (with_subcommand (with_subcommand (with_subcommand (with_subcommand top
     link_command.top) unlink_command.top) (plain_command (codes "refresh")).top) (plain_command (codes "inject")).top)
-<<<<<<< ours
-    (plain_command (codes "check")).top) (plain_command (codes "list")).top) (path_command (codes "why")).top)
-    (path_command (codes "vendor")).top) (plain_command (codes "session")).top) measure_command.top
-=======
     check_command.top) (plain_command (codes "list")).top) (path_command (codes "why")).top)
-    (plain_command (codes "session")).top) measure_command.top
->>>>>>> theirs
+    (path_command (codes "vendor")).top) (plain_command (codes "session")).top) measure_command.top

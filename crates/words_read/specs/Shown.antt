@@ -10,11 +10,7 @@ use Rattle.words_read.specs.declared.command.Command.TheVariants as command
 use Rattle.words_read.specs.declared.spelling.Spelling.{Spelling}
 use Rattle.words_read.specs.declared.spelling.Spelling.TheVariants as spelling
 use Rattle.words_spec.specs.PlainWords.{Asked, Asks, LinkOptions, linking, unlinking, refreshing, checking, listing}
-<<<<<<< ours
-use Rattle.words_spec.specs.PlainWords.{injecting, editing, explaining, vendoring, measuring}
-=======
-use Rattle.words_spec.specs.PlainWords.{checking_strictly, injecting, editing, explaining, measuring}
->>>>>>> theirs
+use Rattle.words_spec.specs.PlainWords.{checking_strictly, injecting, editing, explaining, vendoring, measuring}
 use Rattle.words_spec.specs.Reading as reading
 
 abbrev pub options_of : LinkValues → LinkOptions

@@ -33,13 +33,11 @@ fn reading_of(words: &[String]) -> Option<Command<'_>>
     if command == "why" {
         return why_of(rest);
     }
-<<<<<<< ours
     if command == "vendor" {
         return vendor_of(rest);
-=======
+    }
     if command == "check" {
         return check_of(rest);
->>>>>>> theirs
     }
     if !rest.is_empty() {
         return None;
@@ -87,7 +85,6 @@ fn why_of(words: &[String]) -> Option<Command<'_>>
     Some(Command::Why(path.as_str()))
 }
 
-<<<<<<< ours
 fn vendor_of(words: &[String]) -> Option<Command<'_>>
     ensures { option_map shown result ≡ reading.path_reading vendoring (map string_bytes words.now) }
 {
@@ -96,7 +93,8 @@ fn vendor_of(words: &[String]) -> Option<Command<'_>>
         return None;
     }
     Some(Command::Vendor(path.as_str()))
-=======
+}
+
 fn check_of(words: &[String]) -> Option<Command<'_>>
     ensures { option_map shown result ≡ reading.check_reading (map string_bytes words.now) }
 {
@@ -110,7 +108,6 @@ fn check_of(words: &[String]) -> Option<Command<'_>>
             }
         }
     }
->>>>>>> theirs
 }
 
 fn plain_command(command: &str) -> Option<Command<'_>>

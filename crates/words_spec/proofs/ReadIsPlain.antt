@@ -12,13 +12,8 @@ use Rattle.std.proofs.lemmas.Slice.Eq.{bytes_eq-Decides}
 use Rattle.words_spec.specs.declared.LinkOption.{LinkOption}
 use Rattle.words_spec.specs.declared.LinkOption.TheVariants.{Base, Page, Conditions}
 use Rattle.words_spec.specs.Laws.{ReadingIsExact}
-<<<<<<< ours
-use Rattle.words_spec.specs.PlainWords.{Asked, Asks, IsValue, LinkOptions, LinkWords, no_options, spelled, value_of, with_value, linking, unlinking, explaining, vendoring, measuring, entries, two_words, one_word, link, unlink, refresh, check, list, inject, session, why, vendor, measure}
-use Rattle.words_spec.specs.Reading.{Spelling, no_option, alone, joined, behind, by_spelling, entries_reading, is_value, link_reading, measure_reading, next_number, number_in, one_more, or_else, path_reading, plain_command, reading_of, spelling_as, spelling_by, spelling_of, unlink_reading, with_number, without_more}
-=======
-use Rattle.words_spec.specs.PlainWords.{Asked, Asks, IsValue, LinkOptions, LinkWords, no_options, spelled, value_of, with_value, linking, unlinking, explaining, checking_strictly, measuring, entries, two_words, one_word, link, unlink, refresh, check, check_strictly, list, inject, session, why, measure}
+use Rattle.words_spec.specs.PlainWords.{Asked, Asks, IsValue, LinkOptions, LinkWords, no_options, spelled, value_of, with_value, linking, unlinking, explaining, vendoring, checking_strictly, measuring, entries, two_words, one_word, link, unlink, refresh, check, check_strictly, list, inject, session, why, vendor, measure}
 use Rattle.words_spec.specs.Reading.{Spelling, no_option, alone, joined, behind, by_spelling, check_reading, entries_reading, is_value, link_reading, measure_reading, next_number, number_in, one_more, or_else, path_reading, plain_command, reading_of, spelling_as, spelling_by, spelling_of, unlink_reading, with_number, without_more}
->>>>>>> theirs
 use Rattle.words_spec.proofs.PlainIsRead.{plain_is_read}
 use Rattle.words_spec.proofs.Values.{passed_value, passed_values}
 
@@ -270,14 +265,10 @@ read_is_plain (command ∷ rest) asked is =
     by_name (codes "link") command rest asked _ _ (λ read. link (link_back rest None no_options asked read))
     (by_name (codes "unlink") command rest asked _ _ (unlink_back rest asked)
     (by_name (codes "measure") command rest asked _ _ (measure_back rest asked)
-<<<<<<< ours
     (by_name (codes "why") command rest asked _ _ (path_back (codes "why") explaining why rest asked)
     (by_name (codes "vendor") command rest asked _ _ (path_back (codes "vendor") vendoring vendor rest asked)
-=======
-    (by_name (codes "why") command rest asked _ _ (why_back rest asked)
     (by_name (codes "check") command rest asked _ _ (check_back rest asked)
->>>>>>> theirs
-    (without_more_back command rest asked))))) is
+    (without_more_back command rest asked)))))) is
 
 pub reading_is_exact : ReadingIsExact
 reading_is_exact words asked = (read_is_plain words asked, plain_is_read)

@@ -23,13 +23,8 @@ use Rattle.std.specs.Prelude.{Option, Some, None, if◌then◌else◌, nat_lt, i
 use Rattle.words_spec.specs.declared.LinkOption.{LinkOption}
 use Rattle.words_spec.specs.declared.LinkOption.TheVariants.{Base, Page, Conditions}
 use Rattle.words_spec.specs.PlainWords.{Asked, LinkOptions, no_options, spelled, value_of, with_value, linking}
-<<<<<<< ours
-use Rattle.words_spec.specs.PlainWords.{unlinking, refreshing, checking, listing, injecting, editing, explaining}
-use Rattle.words_spec.specs.PlainWords.{vendoring, measuring, most_packages}
-=======
 use Rattle.words_spec.specs.PlainWords.{unlinking, refreshing, checking, checking_strictly, listing, injecting}
-use Rattle.words_spec.specs.PlainWords.{editing, explaining, measuring, most_packages}
->>>>>>> theirs
+use Rattle.words_spec.specs.PlainWords.{editing, explaining, vendoring, measuring, most_packages}
 
 abbrev pub is_value : List ℕ → Bool
 is_value [] = false
@@ -139,12 +134,9 @@ command_reading command rest =
     else (if bytes_eq command (codes "unlink") then unlink_reading rest
     else (if bytes_eq command (codes "measure") then measure_reading rest
     else (if bytes_eq command (codes "why") then path_reading explaining rest
-<<<<<<< ours
     else (if bytes_eq command (codes "vendor") then path_reading vendoring rest
-=======
     else (if bytes_eq command (codes "check") then check_reading rest
->>>>>>> theirs
-    else without_more rest (plain_command command)))))
+    else without_more rest (plain_command command))))))
 
 abbrev pub reading_of : List (List ℕ) → Option Asked
 reading_of [] = None
