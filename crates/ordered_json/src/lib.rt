@@ -19,7 +19,7 @@ mod value;
 
 pub use fault::JsonFault;
 pub use index_keys::array_index;
-pub use ordered_json::in_property_order;
+pub use property_order::in_property_order;
 pub use quoting::print_text;
 pub use reader::read;
 pub use shared_types::Text;
