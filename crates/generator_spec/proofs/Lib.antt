@@ -7,6 +7,7 @@ pub mod RequestNumbers
 pub mod CopiedMaps
 pub mod Nameless
 pub mod MapPaths
+pub mod Strictnesses
 pub mod Refusals
 pub mod Vendorings
 pub mod Outcomes

@@ -1,4 +1,5 @@
 pub mod Statuses
+pub mod Strictness
 pub mod Commands
 pub mod Measuring
 pub mod Digests
@@ -8,7 +9,6 @@ pub mod Serves
 pub mod Lines
 pub mod Checking
 pub mod Listing
-pub mod Strictness
 pub mod Explaining
 pub mod Vendoring
 pub mod Outcome

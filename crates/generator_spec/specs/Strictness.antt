@@ -1,22 +1,23 @@
 -- What the statement grammar says of the modules of a trace, each beside its outline.
 --     IsSaid text answer          this is said of a module's text
 --     AreSaid sources answers     these are said of the texts of the sources, in their order
---     IsNested answers            some module is nested too deep
---     strict_syntax_line name at, strict_requests_line name      the line of a module that the grammar refuses at this
---                                 place, of one whose requests aren't the outline's
---     strict_line name answer     the module's line, where it doesn't agree
---     strict_lines modules answers      the lines of the modules, in their order
-use Rattle.std.specs.Prelude.{◌≡◌, ℕ, Bool, true, false, List, [], ◌∷◌, ◌++◌, codes, Ok}
-use Rattle.std.specs.Fmt.{decimal}
+--     is_nested answer            the module is nested too deep
+--     IsNested answers            some module is
+--     ModulesAgree tree config command      where the command checks strictly, each module agrees
+use Rattle.std.specs.Prelude.{◌≡◌, ℕ, Bool, true, false, List, [], ◌∷◌, All, Ok}
+use Rattle.std.specs.FinMap.{get}
 use Rattle.std.specs.List.{list_any}
-use Rattle.json_spec.specs.PrintedString.{quoted}
+use Rattle.tree_spec.specs.Trees.{Tree}
 use Rattle.module_spec.specs.Outlines.{Outline, ReadsOutline}
 use Rattle.grammar_spec.specs.declared.answer.Strict.{Strict}
 use Rattle.grammar_spec.specs.declared.answer.Strict.TheVariants.{Agrees, Syntax, Differs, TooDeep}
 use Rattle.grammar_spec.specs.Verdicts.{Verdict, ReadsGrammar, IsStrict}
-use Rattle.trace_spec.specs.Modules.{Module}
+use Rattle.trace_spec.specs.Checks.{Gathered}
+use Rattle.trace_spec.specs.Modules.{Config}
 use Rattle.trace_spec.specs.Questions.{Source}
-use Rattle.generator_spec.specs.Lines.{end_of_line}
+use Rattle.trace_spec.specs.Traces.{traced}
+use Rattle.config_spec.specs.declared.Command.{Command}
+use Rattle.config_spec.specs.declared.Command.TheVariants.{Check, CheckStrictly}
 
 pub record IsSaid (text : List ℕ) (answer : Strict) : Type 0 where
   pub outline : Outline
@@ -25,7 +26,7 @@ pub record IsSaid (text : List ℕ) (answer : Strict) : Type 0 where
   pub reads : ReadsGrammar text verdict
   pub is : IsStrict outline verdict answer
 
--- as many as sources
+-- one for each source
 pub data AreSaid : List Source → List Strict → Type 0 where
   none : AreSaid [] []
   one_more :
@@ -41,25 +42,9 @@ is_nested TooDeep = true
 abbrev pub IsNested : List Strict → Type 0
 IsNested answers = list_any is_nested answers ≡ true
 
--- ---- lines
-
-abbrev pub strict_syntax_line : List ℕ → ℕ → List ℕ
-strict_syntax_line name at =
-    codes "strict: " ++ (quoted name ++ (codes " Syntax at " ++ (decimal at ++ end_of_line)))
-
-abbrev pub strict_requests_line : List ℕ → List ℕ
-strict_requests_line name = codes "strict: " ++ (quoted name ++ (codes " requests differ" ++ end_of_line))
-
--- own: a module that agrees has no line, and one that is nested too deep is refused
-abbrev pub strict_line : List ℕ → Strict → List (List ℕ)
-strict_line name Agrees = []
-strict_line name (Syntax at) = strict_syntax_line name at ∷ []
-strict_line name (Differs found outline) = strict_requests_line name ∷ []
-strict_line name TooDeep = []
-
--- own: a module is named by its path and its suffix
-abbrev pub strict_lines : List Module → List Strict → List (List ℕ)
-strict_lines [] answers = []
-strict_lines (m ∷ modules) [] = []
-strict_lines (m ∷ modules) (answer ∷ answers) =
-    strict_line (m.path ++ m.suffix) answer ++ strict_lines modules answers
+-- own: `check` asks the grammar nothing
+pub data ModulesAgree (tree : Tree) (config : Config) : Command → Type 0 where
+  unasked : ModulesAgree tree config Check
+  agreeing :
+      (all : Gathered) → traced (get tree) config ≡ Ok all
+      → All (λ (source : Source). IsSaid source.bytes Agrees) all.sources → ModulesAgree tree config CheckStrictly

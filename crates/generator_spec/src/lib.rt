@@ -55,6 +55,8 @@ pub enum Refusal {
     MapFile { fault: MapFileFault },
     /// There is no trace.
     Trace { fault: TraceFault },
+    /// More forms of the statement grammar would be open in some module than may be.
+    NestedTooDeep,
     /// Something stands where copies are to stand.
     Occupied { path: Text },
     /// The path of some copy has too many bytes.
