@@ -1,5 +1,7 @@
-ghost use Rattle.std.specs.Prelude.{◌≡◌, ◌++◌, [], IfOk, OnOk};
+ghost use Rattle.std.specs.Prelude.{◌≡◌, ◌++◌, [], IfOk, OnOk, codes};
+ghost use Rattle.json_spec.specs.PrintedString.{quoted};
 ghost use Rattle.tree_spec.specs.Limits.{limit_name, limit_number};
+ghost use Rattle.grammar_spec.specs.Readings.{most_open};
 ghost use Rattle.trace_spec.specs.declared.TraceFault.TheVariants as fault;
 ghost use Rattle.generator_spec.specs.Lines as spec;
 ghost use Rattle.map_check.specs.Shown.{got_of};
@@ -119,6 +121,40 @@ fn push_got(text: &mut Vec<u8>, got: &Got) -> Result<(), Memory>
     }
 }
 
+/// The line of a module that the statement grammar refuses at a place of its text: the module by its path and suffix.
+pub fn strict_syntax_line(
+    alloc: Global,
+    path: &str,
+    suffix: &str,
+    at: usize,
+) -> Result<Vec<u8>, Memory>
+    ensures { IfOk result (λ line. line.items ≡ spec.strict_syntax_line (path.now ++ suffix.now) at) }
+{
+    let mut line = strict_front(alloc, path, suffix)?;
+    let place = format!(in alloc; " Syntax at {at}\n")?;
+    line.extend_from_slice(place.as_bytes())?;
+    Ok(line)
+}
+
+/// The line of a module whose requests aren't those of its outline, by the statement grammar.
+pub fn strict_requests_line(alloc: Global, path: &str, suffix: &str) -> Result<Vec<u8>, Memory>
+    ensures { IfOk result (λ line. line.items ≡ spec.strict_requests_line (path.now ++ suffix.now)) }
+{
+    let mut line = strict_front(alloc, path, suffix)?;
+    line.extend_from_slice(b" requests differ\n".as_slice())?;
+    Ok(line)
+}
+
+// How the line of a module begins.
+fn strict_front(alloc: Global, path: &str, suffix: &str) -> Result<Vec<u8>, Memory>
+    ensures { IfOk result (λ line. line.items ≡ codes "strict: " ++ quoted (path.now ++ suffix.now)) }
+{
+    let name = format!(in alloc; "{path}{suffix}")?;
+    let mut line = Vec::from_slice(alloc, b"strict: ".as_slice())?;
+    print_text(&mut line, name.as_str())?;
+    Ok(line)
+}
+
 /// The last line of a check that found this number of differences.
 pub fn differences_line(alloc: Global, count: usize) -> Result<Vec<u8>, Memory>
     ensures { IfOk result (λ line. line.items ≡ spec.differences_line count) }
@@ -194,7 +230,15 @@ pub fn line_of(alloc: Global, refusal: &Refusal) -> Result<Vec<u8>, Memory>
         Refusal::Occupied { path } => text_line(alloc, "refused: Occupied ", path.as_str()),
         Refusal::PathTooLong => path_line(alloc, "path", MOST_PATH_BYTES),
         Refusal::TooManySegments => path_line(alloc, "segments", MOST_PATH_SEGMENTS),
+        Refusal::NestedTooDeep => Vec::from_slice(alloc, nested_line()),
     }
+}
+
+// The line of a module in which more forms would be open than may be.
+fn nested_line() -> &'static [u8]
+    ensures { result.now ≡ spec.above_line (codes "nesting") most_open }
+{
+    b"limit: nesting above 1000\n".as_slice()
 }
 
 // The name of what a path has too much of, and the most that it has.
