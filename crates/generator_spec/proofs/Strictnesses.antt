@@ -1,12 +1,17 @@
 -- Of a trace's modules one thing is said beside the map, and there is such a thing.
-use Rattle.std.proofs.Common.{◌≡◌, ◌⊎◌, ◌&&◌, ◌==◌, ℕ, Bool, true, false, bytes_eq, List, [], ◌∷◌, map, Option, Some, Result, Ok, Err, refl, sym, ap, ◌∙◌, subst, rw, inl, inr, true≢false}
+use Rattle.std.proofs.Common.{◌≡◌, ◌⊎◌, ◌&&◌, ◌==◌, ◌++◌, ℕ, Bool, true, false, bytes_eq, List, [], ◌∷◌, map, Option, Some, Result, Ok, Err, refl, sym, ap, ◌∙◌, subst, inl, inr, true≢false, arith}
+use Rattle.std.specs.Prelude.{All}
+use Rattle.std.specs.FinMap.{get}
 use Rattle.std.specs.Bool.{Decides}
 use Rattle.std.specs.Cmp.Lexicographic.{pointwise, pointwise_decides}
 use Rattle.std.specs.List.{list_any}
 use Rattle.std.proofs.lemmas.Bool.{cases_Bool}
 use Rattle.std.proofs.lemmas.Bool.Decides.{Decides-like, Decides-and, Decides-eqb}
 use Rattle.std.proofs.lemmas.Slice.Eq.{bytes_eq-Decides}
+use Rattle.std.proofs.lemmas.List.Elements.{All-nil, All-cons, All-head, All-tail}
 use Rattle.tree_spec.specs.LookAskings.{Sights}
+use Rattle.tree_spec.specs.Trees.{Tree}
+use Rattle.check_spec.specs.Differences.{Difference, differences}
 use Rattle.module_spec.specs.declared.request.Request.{Request}
 use Rattle.module_spec.specs.declared.request.ModuleFault.{ModuleFault}
 use Rattle.module_spec.proofs.OutlineLaws.{one_outline}
@@ -23,8 +28,10 @@ use Rattle.trace_spec.specs.Questions.{Source}
 use Rattle.trace_spec.specs.Traces.{source, traced}
 use Rattle.config_spec.specs.declared.Command.{Command}
 use Rattle.generator_spec.specs.Commands.{IsChecking, IsChecking as checking, IsGenerating}
-use Rattle.generator_spec.specs.Checking.{SaysOfModules, SaysOfModules as says, strict_lines}
-use Rattle.generator_spec.specs.Strictness.{IsSaid, AreSaid, AreSaid as said, is_nested, IsNested}
+use Rattle.generator_spec.specs.Checking.{difference_line, SaysOfModules, SaysOfModules as says, strict_line, strict_lines, check_status}
+use Rattle.generator_spec.specs.Laws.{ChecksAreExact}
+use Rattle.generator_spec.specs.Strictness.{IsSaid, AreSaid, AreSaid as said, is_nested, IsNested, ModulesAgree, ModulesAgree as agrees}
+use Rattle.generator_spec.proofs.Generations.{same_trace}
 
 -- ---- commands
 
@@ -49,7 +56,7 @@ one_strict outline verdict some other stricts.deep stricts.deep = refl
 abbrev as_outlined : Outline → Result Outline ModuleFault
 as_outlined outline = Ok outline
 
-one_said : (text : List ℕ) (some other : Strict) → IsSaid text some → IsSaid text other → some ≡ other
+pub one_said : (text : List ℕ) (some other : Strict) → IsSaid text some → IsSaid text other → some ≡ other
 one_said text some other is too =
     let read : as_outlined is.outline ≡ as_outlined too.outline = one_outline text (Ok is.outline) (Ok too.outline) is.is_outline too.is_outline in
     let outlines_same : is.outline ≡ too.outline = cc in
@@ -121,3 +128,61 @@ answers_of sights (m ∷ modules) (own ∷ sources) same =
 -- where there is a trace, something is said of its modules
 pub some_answers : (sights : Sights) (config : Config) (all : Gathered) → traced sights config ≡ Ok all → (answers : List Strict) × AreSaid all.sources answers
 some_answers sights config all e = answers_of sights all.modules all.sources (goes_in_order sights config all e).sources
+
+-- ---- a check that is done
+
+abbrev Agreeing : Source → Type 0
+Agreeing own = IsSaid own.bytes Agrees
+
+-- where no module has a line, and none is nested too deep, each agrees
+all_agree :
+    (sights : Sights) (modules : List Module) (sources : List Source) (answers : List Strict)
+    → map Some sources ≡ map (source sights) modules → AreSaid sources answers → strict_lines modules answers ≡ []
+    → (IsNested answers → ⊥) → All Agreeing sources
+all_agree sights modules [] [] same said.none none shallow = All-nil Agreeing
+all_agree sights [] (own ∷ sources) (answer ∷ answers) same (said.one_more is are) none shallow = absurd (cc)
+all_agree sights (m ∷ modules) (own ∷ sources) (Agrees ∷ answers) same (said.one_more is are) none shallow =
+    All-cons Agreeing own sources is
+    (all_agree sights modules sources answers (first_source (source sights m) own (map (source sights) modules) sources same).1 are none shallow)
+all_agree sights (m ∷ modules) (own ∷ sources) (Syntax at ∷ answers) same (said.one_more is are) none shallow = absurd (cc)
+all_agree sights (m ∷ modules) (own ∷ sources) (Differs found outline ∷ answers) same (said.one_more is are) none shallow = absurd (cc)
+all_agree sights (m ∷ modules) (own ∷ sources) (TooDeep ∷ answers) same (said.one_more is are) none shallow = absurd (shallow refl)
+
+-- and where each agrees, none has a line
+no_strict_lines : (modules : List Module) (sources : List Source) (answers : List Strict) → AreSaid sources answers → All Agreeing sources → strict_lines modules answers ≡ []
+no_strict_lines [] sources answers are agree = refl
+no_strict_lines (m ∷ modules) [] [] said.none agree = refl
+no_strict_lines (m ∷ modules) (own ∷ sources) (answer ∷ answers) (said.one_more is are) agree =
+    let first : answer ≡ Agrees = one_said own.bytes answer Agrees is (All-head Agreeing own sources agree) in
+    ap (λ a. strict_line (m.path ++ m.suffix) a ++ strict_lines modules answers) first
+    ∙ no_strict_lines modules sources answers are (All-tail Agreeing own sources agree)
+
+module _ (tree : Tree) (config : Config) (all : Gathered) (e : traced (get tree) config ≡ Ok all) where
+  agree_without_lines : (command : Command) (strict : List (List ℕ)) → SaysOfModules all command strict → strict ≡ [] → ModulesAgree tree config command
+  agree_without_lines command strict says.unasked none = agrees.unasked
+  agree_without_lines command strict (says.strictly answers are shallow) none =
+      agrees.agreeing all e (all_agree (get tree) all.modules all.sources answers (goes_in_order (get tree) config all e).sources are none shallow)
+
+  no_lines_where_agree : (command : Command) (strict : List (List ℕ)) → SaysOfModules all command strict → ModulesAgree tree config command → strict ≡ []
+  no_lines_where_agree command strict says.unasked agree = refl
+  no_lines_where_agree command strict (says.strictly answers are shallow) (agrees.agreeing found traces agree) =
+      let same = same_trace (traced (get tree) config) found all traces e in
+      no_strict_lines all.modules all.sources answers are (subst (λ (g : Gathered). All Agreeing g.sources) same agree)
+
+done_before : (all : Gathered) (ds : List Difference) (strict : List (List ℕ)) → check_status (map (difference_line all) ds ++ strict) ≡ 0 → (ds ≡ []) × (check_status strict ≡ 0)
+done_before all [] strict zero = (refl, zero)
+done_before all (d ∷ more) strict zero = absurd (omega (arith, zero))
+
+nothing_said : (strict : List (List ℕ)) → check_status strict ≡ 0 → strict ≡ []
+nothing_said [] zero = refl
+nothing_said (line ∷ more) zero = absurd (omega (arith, zero))
+
+pub checks_are_exact : ChecksAreExact
+checks_are_exact tree config command held all strict e says_so = (
+  (λ zero.
+  let before = done_before all (differences held all.needs) strict zero in
+  (before.0, agree_without_lines tree config all e command strict says_so (nothing_said strict before.1))),
+  (λ both.
+  let none = no_lines_where_agree tree config all e command strict says_so both.1 in
+  (λ i. check_status (map (difference_line all) (both.0 i) ++ none i))),
+)
