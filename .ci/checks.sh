@@ -67,6 +67,23 @@ explained() {
     [ $? = 10 ] && echo 'not reached: "/node_modules/cards/server.js"' | diff - "$kept/out"
 }
 
+# The 14 files of the example with packages that its map needs, of 17, and no others: byte for byte; and the copy has the
+# same map. Nothing is copied to where something stands.
+vendored() {
+    program=$PWD/build/salimgub
+    cp -R "$kept/packages" "$kept/vendored" || return 1
+    (cd "$kept/vendored" && "$program" vendor /new/out >"$kept/out") && echo 'vendored 14 files' | diff - "$kept/out" || return 1
+    (cd "$kept/vendored/new/out" && find . -type f | sort) >"$kept/copied"
+    (cd examples/packages && find . -type f ! -name server.js ! -name index.html ! -name 'importmap*' | sort) | diff - "$kept/copied" || return 1
+    while read -r name; do
+        cmp "examples/packages/$name" "$kept/vendored/new/out/$name" || return 1
+    done <"$kept/copied"
+    (cd "$kept/vendored/new/out" && "$program" link --base https://app.test/ ./app.js >"$kept/out") &&
+        cmp "$kept/packages/importmap.json" "$kept/vendored/new/out/importmap.json" || return 1
+    (cd "$kept/vendored" && "$program" vendor /new >"$kept/out")
+    [ $? = 1 ] && echo 'refused: Occupied "/new"' | diff - "$kept/out"
+}
+
 # The page of the examples becomes the one with the map that was typed by hand, which lies beside it: once and again, in
 # a copy, and nothing else is written.
 injected() {
@@ -156,6 +173,7 @@ check "the example" example
 check "the example with packages" packages
 check "digests by other programs" digests
 check "why a file is loaded" explained
+check "copies of what the map needs" vendored
 check "the page of the examples" injected
 check "the page of packages" injected_packages
 check "the example with a map written by hand" checked

@@ -471,7 +471,8 @@ says plain 2 'words: not plain' 'salimgub: the value of an option begins with a 
 says plain 2 'words: not plain' 'salimgub: no number from 1 to 2000 without leading zeros: "007"' measure 007
 says plain 0 'measure 3: 8 modules, 12 requests, 5 mappings' '' measure 3
 says plain 2 'words: BadPath "app.mjs"' '' why app.mjs
-for command in refresh check inject list session 'why /app.mjs' 'unlink x'; do
+says plain 2 'words: BadPath "/"' '' vendor /
+for command in refresh check inject list session 'why /app.mjs' 'vendor /out' 'unlink x'; do
     says plain 7 'bad file: project absent' '' $command
 done
 

@@ -8,7 +8,8 @@
 --     IsListOfEntries entries         they are distinct, and no more than a project has
 --     CanStop Can result              where a change is refused, this holds of why
 --     Makes made asks Can before result after     changes of a draft, one after another, which can be refused so
-use Rattle.std.specs.Prelude.{◌≡◌, ◌≤◌, ⊤, ℕ, List, Bool, true, false, length, bytes_eq, Some, Result, Ok, Err, Contains}
+use Rattle.std.specs.Prelude.{◌≡◌, ◌≤◌, ⊤, ℕ, List, Bool, true, false, length, bytes_eq}
+use Rattle.std.specs.Prelude.{Some, Result, Ok, Err, Contains}
 use Rattle.std.specs.List.{IsDistinct}
 use Rattle.tree_spec.specs.Limits.{limit_number}
 use Rattle.tree_spec.specs.States.{FolderState}

@@ -40,7 +40,8 @@ standing_by (Err InvalidConfig) = Err look.Memory
 pub record Stands (before : FolderState) (known : Known) (over : Over) (path : List ℕ)
     (result : Result Standing LookFault) (after : FolderState) (later : Known) (left : Over) : Type 0 where
   pub looks :
-      LooksOn before known after later (result ≡ Err look.Failed) (result ≡ Err look.Memory) (λ tree other. other ≡ path)
+      LooksOn before known after later (result ≡ Err look.Failed) (result ≡ Err look.Memory)
+      (λ tree other. other ≡ path)
   pub is_path : IsPath path
   pub same_over : (other : List ℕ) → over_at left other ≡ over_at over other
   pub seen :

@@ -72,7 +72,8 @@ impl Entries {
 
     /// One entry less, which must be there.
     pub(crate) fn unlink(&mut self, alloc: Global, entry: &Text) -> Result<(), ChangeStop>
-        ensures { (tree : Tree) → IsMadeOf (unlinked (as_draft tree self.old) entry.now) result (as_draft tree self.new) }
+        ensures { (tree : Tree)
+            → IsMadeOf (unlinked (as_draft tree self.old) entry.now) result (as_draft tree self.new) }
     {
         if !holds(&self.list, entry) {
             return Err(not_linked(alloc, entry)?);

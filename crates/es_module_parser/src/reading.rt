@@ -40,10 +40,13 @@ fn seen_at(token: Token, plain: bool, depth: usize, behind: usize) -> Seen
     }
 }
 
-// Whether a text is one of the two words.
+// Whether a text is one of the two words, which have six bytes.
 fn begins_declaration(text: &[u8]) -> bool
     ensures { result ≡ (bytes_eq text.now (codes "import") || bytes_eq text.now (codes "export")) }
 {
+    if text.len() != 6 {
+        return false;
+    }
     text == b"import".as_slice() || text == b"export".as_slice()
 }
 

@@ -1,5 +1,5 @@
 -- How it comes to be told of copies.
-use Rattle.std.proofs.Common.{◌≡◌, ◌≤◌, ◌<◌, ◌⊎◌, ◌++◌, ℕ, List, [], ◌∷◌, length, Option, Some, None, Result, Ok, Err, IfSome, refl, sym, ap, ◌∙◌, subst, inl, inr, arith}
+use Rattle.std.proofs.Common.{◌≡◌, ◌≤◌, ◌<◌, ◌⊎◌, ◌++◌, ℕ, List, [], ◌∷◌, length, Option, Some, None, Ok, Err, IfSome, refl, sym, ap, ◌∙◌, subst, inl, inr, arith}
 use Rattle.std.specs.Prelude.{true, false}
 use Rattle.std.proofs.lemmas.List.{length-map}
 use Rattle.tree_spec.proofs.ToldStates.{if_some, if_two, looks_as}
@@ -8,21 +8,16 @@ use Rattle.tree_spec.specs.States.{FolderState, SinkState}
 use Rattle.tree_spec.specs.Trees.{Tree}
 use Rattle.trace_spec.specs.Modules.{Config}
 use Rattle.words_spec.proofs.PlainIsRead.{one_asked}
-use Rattle.words_spec.proofs.ReadIsPlain.{read_is_plain}
-use Rattle.words_spec.specs.PlainWords.{Asked, refreshing, vendoring}
-use Rattle.config_spec.proofs.Options.{no_settings_set}
-use Rattle.config_spec.proofs.WordsJudged.{path_vendored, vendored_path}
+use Rattle.words_spec.specs.PlainWords.{vendoring}
+use Rattle.config_spec.proofs.WordsJudged.{path_vendored}
 use Rattle.config_spec.specs.declared.Command.{Command}
 use Rattle.config_spec.specs.declared.Command.TheVariants.{Link, Unlink, Refresh, Inject, Check, Why, Vendor}
 use Rattle.config_spec.specs.declared.Command.TheVariants.{List as Lists}
-use Rattle.config_spec.specs.declared.ConfigFault.{ConfigFault}
-use Rattle.config_spec.specs.declared.ProjectFault.{ProjectFault}
-use Rattle.config_spec.specs.Projects.{config_by, project_path, CanRefuseConfig, Configures, IsConfigFor, IsConfigOf, RefusesAsked, RefusesConfig}
-use Rattle.config_spec.specs.Projects.RefusesAsked.{bad_project, no_project, no_base, too_many_entries, not_linked}
-use Rattle.config_spec.specs.Words.{command_of, IsCommandOf, no_settings, Settings, VendorsTo}
+use Rattle.config_spec.specs.Projects.{project_path, IsConfigOf}
+use Rattle.config_spec.specs.Words.{command_of, IsCommandOf, VendorsTo}
 use Rattle.command_words.specs.Orders.{VendorsAt}
 use Rattle.project_spec.specs.ProjectFiles.{IsPagePath}
-use Rattle.session_spec.specs.SessionRuns.{refresh_words}
+use Rattle.session_spec.specs.Openings.{refresh_words}
 use Rattle.generation.specs.declared.stop.Stop.{Stop}
 use Rattle.generation.specs.declared.stop.Stop.TheVariants.{Refused, ReadFault, Memory}
 use Rattle.generator_spec.specs.declared.Refusal.{Refusal}
@@ -38,11 +33,12 @@ use Rattle.generator_spec.specs.Outcome.{ComesTo as comes, Outcome, RefusesRun, 
 use Rattle.generator_spec.specs.Vendoring.{CanCopy, copied_files, IsCopyRefusal, Vendors}
 use Rattle.tree_vendor.specs.Laws.{pairs}
 use Rattle.generator_core.specs.declared.vendoring.Copies.{Copies}
-use Rattle.generator_core.specs.Configuring.{FindsConfig, StopsConfig, StopsConfig as stops_config}
+use Rattle.generator_core.specs.Configuring.{FindsConfig}
 use Rattle.generator_core.specs.Vendoring.{AreReady, AsksCopies, AsksCopies as asks, EndsCopies, EndsFiles, IsReadyTo, new_files}
 use Rattle.generator_core.specs.Vendoring.{RefusesHere, RefusesHere as here}
 use Rattle.generator_core.specs.Writing.{AreSome, IsWriting, SaysWrite, SaysWrite as writes, TellsStop, WritesFiles, WritesFiles as writes_files}
 use Rattle.generator_core.proofs.Endings.{ends_by_line, memory_ends, read_fault_ends, refusal_ends}
+use Rattle.generator_core.proofs.Refreshed.{asks_command, takes_no_project, takes_project, vendor_takes}
 
 -- a command that says counts generates
 pub counts_generate : (command : Command) → SaysCounts command → IsGenerating command
@@ -59,107 +55,14 @@ counts_generate Vendor counts = tt
 
 module _ (words : List (List ℕ)) (path : List ℕ) (is : VendorsAt words path) where
   pub vendor_command : IsCommandOf words Vendor
-  vendor_command = record {
-    asked = vendoring path;
-    asks = is.asks;
-    is = vendored_path path is.is_path;
-    settings = no_settings;
-    sets = no_settings_set;
-  }
-
-  refreshed : {tree : Tree} {outcome : Result Config ConfigFault} → Configures refresh_words tree Refresh outcome → Configures words tree Vendor outcome
-  refreshed {tree} {outcome} found =
-      let asked = one_asked refresh_words found.asked refreshing found.asks (read_is_plain refresh_words refreshing refl) in
-      record {
-        asked = vendoring path;
-        asks = is.asks;
-        is = vendored_path path is.is_path;
-        settings = no_settings;
-        sets = no_settings_set;
-        found = found.found;
-        holds = found.holds;
-        comes = found.comes ∙ (ap (λ a. config_by a found.settings found.found) asked ∙ as_it_stands found.settings found.found);
-      }
-    where
-      as_it_stands : (settings : Settings) (held : Result (Option Config) ProjectFault) → config_by refreshing settings held ≡ config_by (vendoring path) no_settings held
-      as_it_stands settings (Err fault) = refl
-      as_it_stands settings (Ok held) = refl
-
-  refreshed_for : (config : Config) → IsConfigFor refresh_words Refresh config → IsConfigFor words Vendor config
-  refreshed_for config found = record {
-    asked = vendoring path;
-    asks = is.asks;
-    is = vendored_path path is.is_path;
-    settings = no_settings;
-    sets = no_settings_set;
-    kept = refl;
-    is_project = found.is_project;
-    entries = tt;
-    few = found.few;
-  }
-
-  refreshed_refuses : (asked : Asked) (fault : ConfigFault) → asked ≡ refreshing → RefusesAsked asked fault → RefusesAsked (vendoring path) fault
-  refreshed_refuses asked fault same (bad_project _ why read) = bad_project (vendoring path) why read
-  refreshed_refuses asked fault same (no_project _ other) = no_project (vendoring path) (λ options entries e. absurd (cc))
-  refreshed_refuses asked fault same (no_base options entries none) = absurd (cc)
-  refreshed_refuses asked fault same (too_many_entries options entries) = absurd (cc)
-  refreshed_refuses asked fault same (not_linked entries front entry rest parts distinct) = absurd (cc)
-
-  refreshed_can : (fault : ConfigFault) → CanRefuseConfig refresh_words fault → CanRefuseConfig words fault
-  refreshed_can fault can =
-      let asked = one_asked refresh_words can.asked refreshing can.asks (read_is_plain refresh_words refreshing refl) in
-      record {
-        command = Vendor;
-        asked = vendoring path;
-        asks = is.asks;
-        is = vendored_path path is.is_path;
-        settings = no_settings;
-        sets = no_settings_set;
-        refuses = refreshed_refuses can.asked fault asked can.refuses;
-      }
-
-  same_refresh : {tree : Tree} {fault : ConfigFault} (command : Command) → Configures refresh_words tree command (Err fault) → Configures refresh_words tree Refresh (Err fault)
-  same_refresh command found =
-      let asked = one_asked refresh_words found.asked refreshing found.asks (read_is_plain refresh_words refreshing refl) in
-      record {
-        asked = refreshing;
-        asks = read_is_plain refresh_words refreshing refl;
-        is = refl;
-        settings = no_settings;
-        sets = no_settings_set;
-        found = found.found;
-        holds = found.holds;
-        comes = found.comes ∙ (ap (λ a. config_by a found.settings found.found) asked ∙ as_it_was found.settings found.found);
-      }
-    where
-      as_it_was : (settings : Settings) (held : Result (Option Config) ProjectFault) → config_by refreshing settings held ≡ config_by refreshing no_settings held
-      as_it_was settings (Err fault) = refl
-      as_it_was settings (Ok held) = refl
+  vendor_command = asks_command words (vendoring path) Vendor is.asks (vendor_takes path is.is_path)
 
   module _ (before after : FolderState) where
-    stopped_too : (stop : Stop) → StopsConfig refresh_words before after stop → StopsConfig words before after stop
-    stopped_too stop (stops_config.refused fault same refuses can looks) =
-        stops_config.refused fault same
-        (if_some before.holds (λ tree because. record { command = Vendor; configures = refreshed (same_refresh because.command because.configures) }) refuses)
-        (refreshed_can fault can) looks
-    stopped_too stop (stops_config.read_fault same looks) = stops_config.read_fault same looks
-    stopped_too stop (stops_config.memory same looks) = stops_config.memory same looks
-
-    found_too : (config : Config) → IsConfigAt refresh_words Refresh config before → IsConfigAt words Vendor config before
-    found_too config found = record {
-      told = if_some before.holds (λ tree of. refreshed of) found.told;
-      can = refreshed_for config found.can;
-    }
-
     pub vendors_project : (config : Config) → FindsConfig refresh_words Refresh before (Ok config) after → FindsConfig words Vendor before (Ok config) after
-    vendors_project config at = record {
-      found = record { is = found_too config at.found.is; looks = at.found.looks };
-      asked = at.asked;
-      stopped = tt;
-    }
+    vendors_project config at = takes_project words (vendoring path) Vendor is.asks (vendor_takes path is.is_path) before after config at
 
     pub vendors_no_project : (stop : Stop) → FindsConfig refresh_words Refresh before (Err stop) after → FindsConfig words Vendor before (Err stop) after
-    vendors_no_project stop at = record { found = tt; asked = at.asked; stopped = stopped_too stop at.stopped }
+    vendors_no_project stop at = takes_no_project words (vendoring path) Vendor is.asks (vendor_takes path is.is_path) before after stop at
 
 -- ---- what is asked for
 

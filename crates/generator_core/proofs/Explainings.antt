@@ -1,9 +1,9 @@
 -- How it comes to be said why a file is loaded, step by step.
-use Rattle.std.proofs.Common.{◌≡◌, ◌≢◌, ◌≤◌, ◌+◌, ◌++◌, ℕ, Bor, List, [], ◌∷◌, length, drop, Option, Some, None, Result, Ok, Err, IfSome, refl, sym, ap, ◌∙◌, subst, inl, inr, append_assoc, arith}
+use Rattle.std.proofs.Common.{◌≡◌, ◌≢◌, ◌≤◌, ◌+◌, ◌++◌, ℕ, Bor, List, [], ◌∷◌, length, drop, Option, Some, None, Ok, Err, IfSome, refl, sym, ap, ◌∙◌, subst, inl, inr, append_assoc, arith}
 use Rattle.std.proofs.lemmas.List.{append-nil, drop_all}
 use Rattle.std.specs.FinMap.{get}
 use Rattle.std.specs.List.{concat}
-use Rattle.std.specs.Prelude.{All, get_or, option_copied, option_map, slice_get, unwrap_or}
+use Rattle.std.specs.Prelude.{get_or, option_copied, option_map, slice_get, unwrap_or}
 use Rattle.std.proofs.lemmas.Bool.{cases_lt}
 use Rattle.std.proofs.lemmas.Option.{slice_get-get_or, slice_get-map}
 use Rattle.std.proofs.lemmas.List.Elements.{All-contains}
@@ -20,20 +20,12 @@ use Rattle.tree_spec.specs.Trees.{Tree}
 use Rattle.tree_spec.proofs.ToldStates.{if_all, if_some, if_two, looks_as}
 use Rattle.trace_graph.specs.Links.{Links, module_in, source_in, source_of, IsLinked, IsLive}
 use Rattle.trace_spec.specs.Modules.{Config}
-use Rattle.words_spec.proofs.PlainIsRead.{one_asked}
-use Rattle.words_spec.proofs.ReadIsPlain.{read_is_plain}
-use Rattle.words_spec.specs.PlainWords.{Asked, explaining, refreshing}
-use Rattle.config_spec.proofs.Options.{no_settings_set}
-use Rattle.config_spec.proofs.WordsJudged.{explained_path}
-use Rattle.config_spec.specs.declared.Command.{Command}
+use Rattle.words_spec.specs.PlainWords.{explaining}
 use Rattle.config_spec.specs.declared.Command.TheVariants.{Refresh, Why}
-use Rattle.config_spec.specs.declared.ConfigFault.{ConfigFault}
-use Rattle.config_spec.specs.declared.ProjectFault.{ProjectFault}
-use Rattle.config_spec.specs.Projects.{config_by, CanRefuseConfig, Configures, IsConfigFor, IsConfigOf, RefusesAsked, RefusesConfig}
-use Rattle.config_spec.specs.Projects.RefusesAsked.{bad_project, no_project, no_base, too_many_entries, not_linked}
-use Rattle.config_spec.specs.Words.{AsksWhy, IsCommandOf, no_settings, options_of, Sets, Settings}
+use Rattle.config_spec.specs.Projects.{IsConfigOf}
+use Rattle.config_spec.specs.Words.{AsksWhy, IsCommandOf}
 use Rattle.command_words.specs.Orders.{AsksWhyAt}
-use Rattle.session_spec.specs.SessionRuns.{refresh_words}
+use Rattle.session_spec.specs.Openings.{refresh_words}
 use Rattle.request_trace.specs.Showing.{Traced, Shows}
 use Rattle.generation.specs.declared.stop.Stop.{Stop}
 use Rattle.generation.specs.declared.stop.Stop.TheVariants.{Refused, ReadFault, Memory}
@@ -49,10 +41,11 @@ use Rattle.chain_why.specs.Answers.{IsAnswer}
 use Rattle.chain_why.specs.Shown.{targets_in, is_at}
 use Rattle.generator_spec.specs.Outcome.{ComesTo as comes, Outcome}
 use Rattle.generator_core.specs.declared.checking.Report.{Report}
-use Rattle.generator_core.specs.Configuring.{FindsConfig, StopsConfig, StopsConfig as stops_config}
-use Rattle.generator_core.specs.Explaining.{AreLive, specifiers_of, step_lines, GraphSays, GraphSays as graph_says, IsReportOf, IsToldWhy}
+use Rattle.generator_core.specs.Configuring.{FindsConfig}
+use Rattle.generator_core.specs.Explaining.{AreLive, specifiers_of, step_lines, GraphSays as graph_says, IsReportOf, IsToldWhy}
 use Rattle.generator_core.specs.Explaining.{IsExplained, ExplainsFile}
 use Rattle.generator_core.proofs.Endings.{ends_as}
+use Rattle.generator_core.proofs.Refreshed.{asks_command, takes_no_project, takes_project, why_takes}
 use Rattle.generator_core.proofs.LoadedBy.{says_by_graph}
 use Rattle.generator_core.proofs.ToldChains.{tells_chain}
 use Rattle.generator_core.proofs.Preparings.{asks_few}
@@ -61,105 +54,14 @@ use Rattle.generator_core.proofs.Preparings.{asks_few}
 
 module _ (words : List (List ℕ)) (path : List ℕ) (is : AsksWhyAt words path) where
   pub why_command : IsCommandOf words Why
-  why_command = record {
-    asked = explaining path;
-    asks = is.asks;
-    is = explained_path path is.is_path;
-    settings = no_settings;
-    sets = no_settings_set;
-  }
-
-  refreshed : {tree : Tree} {outcome : Result Config ConfigFault} → Configures refresh_words tree Refresh outcome → Configures words tree Why outcome
-  refreshed {tree} {outcome} found =
-      let asked = one_asked refresh_words found.asked refreshing found.asks (read_is_plain refresh_words refreshing refl) in
-      record {
-        asked = explaining path;
-        asks = is.asks;
-        is = explained_path path is.is_path;
-        settings = no_settings;
-        sets = no_settings_set;
-        found = found.found;
-        holds = found.holds;
-        comes = found.comes ∙ (ap (λ a. config_by a found.settings found.found) asked ∙ as_it_stands found.settings found.found);
-      }
-    where
-      as_it_stands : (settings : Settings) (held : Result (Option Config) ProjectFault) → config_by refreshing settings held ≡ config_by (explaining path) no_settings held
-      as_it_stands settings (Err fault) = refl
-      as_it_stands settings (Ok held) = refl
-
-  refreshed_for : (config : Config) → IsConfigFor refresh_words Refresh config → IsConfigFor words Why config
-  refreshed_for config found = record {
-    asked = explaining path;
-    asks = is.asks;
-    is = explained_path path is.is_path;
-    settings = no_settings;
-    sets = no_settings_set;
-    kept = refl;
-    is_project = found.is_project;
-    entries = tt;
-    few = found.few;
-  }
-
-  refreshed_refuses : (asked : Asked) (fault : ConfigFault) → asked ≡ refreshing → RefusesAsked asked fault → RefusesAsked (explaining path) fault
-  refreshed_refuses asked fault same (bad_project _ why read) = bad_project (explaining path) why read
-  refreshed_refuses asked fault same (no_project _ other) = no_project (explaining path) (λ options entries e. absurd (cc))
-  refreshed_refuses asked fault same (no_base options entries none) = absurd (cc)
-  refreshed_refuses asked fault same (too_many_entries options entries) = absurd (cc)
-  refreshed_refuses asked fault same (not_linked entries front entry rest parts distinct) = absurd (cc)
-
-  refreshed_can : (fault : ConfigFault) → CanRefuseConfig refresh_words fault → CanRefuseConfig words fault
-  refreshed_can fault can =
-      let asked = one_asked refresh_words can.asked refreshing can.asks (read_is_plain refresh_words refreshing refl) in
-      record {
-        command = Why;
-        asked = explaining path;
-        asks = is.asks;
-        is = explained_path path is.is_path;
-        settings = no_settings;
-        sets = no_settings_set;
-        refuses = refreshed_refuses can.asked fault asked can.refuses;
-      }
-
-  -- `refresh` asks for no other command
-  same_refresh : {tree : Tree} {fault : ConfigFault} (command : Command) → Configures refresh_words tree command (Err fault) → Configures refresh_words tree Refresh (Err fault)
-  same_refresh command found =
-      let asked = one_asked refresh_words found.asked refreshing found.asks (read_is_plain refresh_words refreshing refl) in
-      record {
-        asked = refreshing;
-        asks = read_is_plain refresh_words refreshing refl;
-        is = refl;
-        settings = found.settings;
-        sets = subst (λ a. Sets (options_of a) found.settings) asked found.sets;
-        found = found.found;
-        holds = found.holds;
-        comes = found.comes ∙ ap (λ a. config_by a found.settings found.found) asked;
-      }
-
-  refreshed_fault : (tree : Tree) (fault : ConfigFault) → RefusesConfig refresh_words tree fault → RefusesConfig words tree fault
-  refreshed_fault tree fault because = record { command = Why; configures = refreshed (same_refresh because.command because.configures) }
+  why_command = asks_command words (explaining path) Why is.asks (why_takes path is.is_path)
 
   module _ (before after : FolderState) where
-    stopped_too : (stop : Stop) → StopsConfig refresh_words before after stop → StopsConfig words before after stop
-    stopped_too stop (stops_config.refused fault same refuses can looks) =
-        stops_config.refused fault same (if_some before.holds (λ tree because. refreshed_fault tree fault because) refuses) (refreshed_can fault can) looks
-    stopped_too stop (stops_config.read_fault same looks) = stops_config.read_fault same looks
-    stopped_too stop (stops_config.memory same looks) = stops_config.memory same looks
-
-    found_too : (config : Config) → IsConfigAt refresh_words Refresh config before → IsConfigAt words Why config before
-    found_too config found = record {
-      told = if_some before.holds (λ tree of. refreshed of) found.told;
-      can = refreshed_for config found.can;
-    }
-
     pub explains_project : (config : Config) → FindsConfig refresh_words Refresh before (Ok config) after → FindsConfig words Why before (Ok config) after
-    explains_project config at = record {
-      found = record { is = found_too config at.found.is; looks = at.found.looks };
-      asked = at.asked;
-      stopped = tt;
-    }
+    explains_project config at = takes_project words (explaining path) Why is.asks (why_takes path is.is_path) before after config at
 
     pub explains_no_project : (stop : Stop) → FindsConfig refresh_words Refresh before (Err stop) after → FindsConfig words Why before (Err stop) after
-    explains_no_project stop at = record { found = tt; asked = at.asked; stopped = stopped_too stop at.stopped }
+    explains_no_project stop at = takes_no_project words (explaining path) Why is.asks (why_takes path is.is_path) before after stop at
 
 -- ---- the trace
 

@@ -34,7 +34,7 @@ use Rattle.session_spec.specs.SessionRuns.{IsSessionShaped as shaped, RepliesTo 
 use Rattle.session_spec.specs.Openings.{refresh_words}
 use Rattle.session_spec.specs.SessionLooks.{IsSessionLook, AsksFresh, AsksWithin}
 use Rattle.session_spec.specs.SessionRuns.{IsAwaited, StatesServe, NoFault, RepliesTo, RepliesToAll, SessionComesTo, SessionSays, SessionStops, SessionEnds}
-use Rattle.session_spec.proofs.SessionSpending.{spends_nothing}
+use Rattle.session_spec.proofs.SessionSpending.{none_spent}
 use Rattle.generator_core.specs.Configuring.{StopsConfig, StopsConfig as stops_config}
 use Rattle.generator_core.specs.Writing.{TellsStop, TellsWords}
 use Rattle.generator_core.proofs.Endings.{some_same, still}
@@ -133,7 +133,7 @@ module _ (before after : FolderState) (source : SourceState) (out gone : SinkSta
     few = omega arith;
     awaited = if_all before.holds (λ tree. inl refl);
     asked = if_some before.asked (λ old is. record { first = is.first; is_first = is.is_own; then = nothing_fresh before.holds after (old ++ is.first) is.asked }) own;
-    steps = spends_nothing _ _ _ (omega arith);
+    steps = none_spent [] spent;
     stops = stops;
     serves = if_all before.holds (λ tree. session_maps_serve tree []);
   }

@@ -6,6 +6,7 @@ pub mod ReportLemmas
 pub mod Configurings
 pub mod Runs
 pub mod Listings
+pub mod Refreshed
 pub mod MappedChains
 pub mod LoadedBy
 pub mod ToldChains

@@ -1,11 +1,14 @@
 -- How the files that a map needs come to be copied, step by step.
 use Rattle.std.proofs.Common.{◌≡◌, ◌≢◌, ◌≤◌, ◌<◌, ◌⊎◌, ◌+◌, ◌++◌, [], ◌∷◌, ℕ, List, length, map, take, Option, Some, None, Result, Ok, Err, IfSome, refl, sym, ap, ◌∙◌, subst, inl, inr, arith}
 use Rattle.std.specs.FinMap.{get}
-use Rattle.std.specs.Prelude.{codes, option_map, Bool, Contains, true, false}
+use Rattle.std.specs.Prelude.{codes, option_map, Contains, true, false}
 use Rattle.tree_spec.proofs.ToldStates.{if_some, if_two, looks_as, looks_then}
 use Rattle.tree_spec.specs.Counts.{Rose}
-use Rattle.tree_spec.specs.Looks.{asked_after}
-use Rattle.tree_spec.specs.States.{FolderState, OnlyLooks}
+use Rattle.tree_spec.specs.declared.Entry.TheVariants.{Directory, Stored}
+use Rattle.tree_spec.specs.declared.Look.{Look}
+use Rattle.tree_spec.specs.declared.Look.TheVariants as look
+use Rattle.tree_spec.specs.declared.LookFault.TheVariants as look_fault
+use Rattle.tree_spec.specs.States.{FolderState, IsLooked, OnlyLooks}
 use Rattle.tree_spec.specs.Trees.{Tree, IsTree}
 use Rattle.trace_spec.specs.Modules.{Config}
 use Rattle.package_lookup.specs.Looked.{Sees}
@@ -34,7 +37,7 @@ use Rattle.generator_spec.specs.declared.Refusal.{Refusal}
 use Rattle.generator_spec.specs.declared.Refusal.TheVariants.{Occupied, PathTooLong, TooManySegments}
 use Rattle.generator_core.specs.declared.vendoring.Copies.{Copies}
 use Rattle.generator_core.specs.Vendoring.{as_new, new_files, AreReady, AsksCopies, AsksCopies as asks, EndsCopies, IsFree}
-use Rattle.generator_core.specs.Vendoring.{IsReadyTo, PreparesCopies, RefusesHere, RefusesHere as here, StandsAt, StopsPlan}
+use Rattle.generator_core.specs.Vendoring.{IsReadyTo, PreparesCopies, RefusesHere, RefusesHere as here, StandsAt, StopsCopies, StopsCopies as stops, StopsPlan}
 use Rattle.generator_core.specs.Writing.{WritesFiles, WritesFiles as writes_files}
 use Rattle.generator_core.proofs.Preparings.{asks_few}
 
@@ -241,15 +244,68 @@ module _ (to : List ℕ) (config : Config) (before middle : FolderState) (known 
 
 -- ---- a look at the folder of the copies
 
-pub asked_last : (to : List ℕ) (answered : Bool) (before after : FolderState) → after.asked ≡ asked_after answered to before.asked
-    → (after.asked ≡ before.asked) ⊎ (after.asked ≡ option_map (λ paths. paths ++ to ∷ []) before.asked)
-asked_last to true before after is = inr is
-asked_last to false before after is = inl is
+module _ (to : List ℕ) (limit : ℕ) (before after : FolderState) where
+  abbrev IsSeen : Look → Type 0
+  IsSeen found = IsLooked before to limit (Ok found) after
+
+  seen : {P : Type 0} (found : Look) → (P → ⊥) → IsSeen found → OnlyLooks before after P
+  seen found not is = record {
+    tree = is.tree;
+    writes = is.writes;
+    later = is.later;
+    cause = λ e. absurd (not e);
+    quiet = λ none. is.quiet (λ same. cc);
+  }
+
+  pub free_there : (found : Look) → found ≡ look.Absent → IsSeen found → IsFree to before (Ok tt) after
+  free_there found same is = by (subst IsSeen same is)
+    where
+      by : IsSeen look.Absent → IsFree to before (Ok tt) after
+      by there = record { free = there.entry; refused = tt; looks = seen look.Absent (λ e. absurd (cc)) there; asked = inr there.asked }
+
+  not_free_there : (found : Look) (stop : Stop) → IfSome before.holds (λ tree. StandsAt tree to) → StopsCopies to stop → IsSeen found → IsFree to before (Err stop) after
+  not_free_there found stop stands (stops.occupied same) is =
+      subst (λ (s : Stop). IsFree to before (Err s) after) (sym same)
+      (record { free = tt; refused = (refl, stands); looks = seen found (λ e. absurd (cc)) is; asked = inr is.asked })
+  not_free_there found stop stands (stops.memory same) is =
+      subst (λ (s : Stop). IsFree to before (Err s) after) (sym same)
+      (record { free = tt; refused = tt; looks = seen found (λ e. absurd (cc)) is; asked = inr is.asked })
+
+  pub folder_there : (found : Look) (stop : Stop) → found ≡ look.Folder → StopsCopies to stop → IsSeen found → IsFree to before (Err stop) after
+  folder_there found stop same stops is =
+      let there : IsSeen look.Folder = subst IsSeen same is in
+      not_free_there look.Folder stop (if_some before.holds (λ tree e. record { entry = Directory; stands = e }) there.entry) stops there
+
+  pub file_there : (found : Look) (bytes : List ℕ) (stop : Stop) → found ≡ look.File bytes → StopsCopies to stop → IsSeen found → IsFree to before (Err stop) after
+  file_there found bytes stop same stops is =
+      let there : IsSeen (look.File bytes) = subst IsSeen same is in
+      not_free_there (look.File bytes) stop (if_some before.holds (λ tree e. record { entry = Stored bytes; stands = e.0 }) there.entry) stops there
+
+  pub large_there : (found : Look) (stop : Stop) → found ≡ look.TooLarge → StopsCopies to stop → IsSeen found → IsFree to before (Err stop) after
+  large_there found stop same stops is =
+      let there : IsSeen look.TooLarge = subst IsSeen same is in
+      not_free_there look.TooLarge stop (if_some before.holds (λ tree e. record { entry = Stored e.0; stands = e.1 }) there.entry) stops there
+
+  pub look_failed : IsLooked before to limit (Err look_fault.Failed) after → IsFree to before (Err ReadFault) after
+  look_failed is = record {
+    free = tt;
+    refused = tt;
+    looks = record { tree = is.tree; writes = is.writes; later = is.later; cause = λ e. is.failed refl; quiet = λ none. absurd (none refl) };
+    asked = inl is.asked;
+  }
+
+  pub look_lacks : IsLooked before to limit (Err look_fault.Memory) after → IsFree to before (Err Memory) after
+  look_lacks is = record {
+    free = tt;
+    refused = tt;
+    looks = record { tree = is.tree; writes = is.writes; later = is.later; cause = λ e. absurd (cc); quiet = λ none. is.quiet (λ same. cc) };
+    asked = inl is.asked;
+  }
 
 -- ---- the writes
 
 module _ (before after : FolderState) (files : List Pair) where
-  wrote_all : Leaves files before after → after.write_faults ≡ before.write_faults → WritesFiles (map as_new files) before true after
+  pub wrote_all : Leaves files before after → after.write_faults ≡ before.write_faults → WritesFiles (map as_new files) before true after
   wrote_all is quiet =
       writes_files.all refl
       (if_some before.holds (λ tree w. record { after = w.0; is_told = w.1; placed = placed_all files tree w.0 w.2 }) is.written) quiet
@@ -271,7 +327,7 @@ module _ (before after : FolderState) (files : List Pair) where
       by [] = omega arith
       by (first ∷ more) = let n = by more in omega (arith, n)
 
-  wrote_some : StopsAt files before after → Rose before.write_faults after.write_faults → before.write_faults ≤ after.write_faults
+  pub wrote_some : StopsAt files before after → Rose before.write_faults after.write_faults → before.write_faults ≤ after.write_faults
       → WritesFiles (map as_new files) before false after
   wrote_some is rose later =
       writes_files.some refl

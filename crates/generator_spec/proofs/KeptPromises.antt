@@ -3,12 +3,14 @@ use Rattle.generator_spec.specs.Laws.{EndsKeepPromises}
 use Rattle.generator_spec.proofs.Endings.{end_statuses, end_kept, end_kept_or_done, end_refused_words, end_not_plain, end_read, end_write, end_two, end_shows}
 use Rattle.generator_spec.proofs.ToldLines.{end_tells}
 use Rattle.generator_spec.proofs.Meetings.{end_meets}
+use Rattle.generator_spec.proofs.Vendorings.{if_vendored}
 
 pub ends_keep_promises : EndsKeepPromises
 ends_keep_promises words before after out out_after result e = record {
   statuses = end_statuses words before after out out_after result e.status e.lines e.says e.ends;
   kept = end_kept words before after out out_after result e.status e.lines e.says e.untold e.ends;
   done = e.headline;
+  copied = λ to asks done. if_vendored words before.holds after.holds to asks (e.headline done);
   write_fault =
       λ five. end_kept_or_done words before after out out_after result e.status e.lines e.says e.untold e.written;
   read = end_read words before after out out_after result e.status e.lines e.says e.ends;

@@ -4,7 +4,6 @@ pub mod Generations
 pub mod CopiedMaps
 pub mod Explanations
 pub mod RequestNumbers
-pub mod CopiedMaps
 pub mod Nameless
 pub mod MapPaths
 pub mod Strictnesses

@@ -1,5 +1,5 @@
 -- A command over a tree has one outcome.
-use Rattle.std.proofs.Common.{◌≡◌, ◌⊎◌, ℕ, List, [], ◌∷◌, length, Some, Result, Ok, Err, codes, refl, sym, ap, ◌∙◌, subst, inl, inr, arith, ◌≢◌, None, true≢false}
+use Rattle.std.proofs.Common.{◌≡◌, ◌⊎◌, ℕ, List, [], ◌∷◌, length, Option, Some, Result, Ok, Err, codes, refl, sym, ap, ◌∙◌, subst, inl, inr, arith, ◌≢◌, None, true≢false}
 use Rattle.std.specs.Prelude.{All, ◌++◌}
 use Rattle.std.proofs.lemmas.List.Elements.{All-nil, All-cons, All-head, All-tail}
 use Rattle.std.specs.FinMap.{get, insert}
@@ -746,24 +746,47 @@ module _ (words : List (List ℕ)) (tree : Tree) (is_tree : IsTree tree) (unbloc
     not_copied : (why : Refusal) → RefusesCopies tree to paths why → HasOutcome words tree
     not_copied why refused_so = by_why why (runs.by_copies to config map why asks is generates refused_so)
 
+    copied : get tree to ≡ None → (pairs : List Pair) → IsPlan tree to paths pairs → Vendors words tree to pairs
+    copied free pairs plan = record {
+      asks = asks;
+      config = config;
+      is_config = is;
+      map = map;
+      generates = generates;
+      free = free;
+      is_plan = plan;
+    }
+
     by_copies : (to_is : IsPath to) (to_deep : to ≢ codes "/") (free : get tree to ≡ None) (pairs : List Pair)
         → IsPlan tree to paths pairs → HasOutcome words tree
-    by_copies to_is to_deep free pairs plan =
-        let made = some_copied tree to paths pairs is_tree to_is to_deep free
-        (λ file bytes stands above. unblocked (record { to = to; asks = asks; file = file; bytes = bytes; stands = stands; above = above }))
-        plan in
+    by_copies to_is to_deep free [] plan = record {
+      status = 0;
+      lines = vendored_line 0 ∷ [];
+      after = tree;
+      outcome = record { files = []; comes = vendored to [] (copied free [] plan) refl refl refl; placed = refl };
+    }
+    by_copies to_is to_deep free (pair ∷ more) plan =
+        let blocked = λ (file bytes : List ℕ) (stands : get tree file ≡ Some (Stored bytes)) (above : IsAbove file to).
+        unblocked (record {
+          to = to;
+          pair = pair;
+          more = more;
+          vendors = copied free (pair ∷ more) plan;
+          file = file;
+          bytes = bytes;
+          stands = stands;
+          above = above;
+        }) in
+        let made = some_copied tree to paths (pair ∷ more) is_tree to_is to_deep free blocked plan in
         record {
           status = 0;
-          lines = vendored_line (length pairs) ∷ [];
+          lines = vendored_line (length (pair ∷ more)) ∷ [];
           after = made.0;
           outcome =
               record {
-                files = copied_files to pairs;
-                comes =
-                    vendored to pairs
-                    (record { asks = asks; config = config; is_config = is; map = map; generates = generates; free = free; is_plan = plan })
-                    refl refl refl;
-                placed = files_placed to pairs tree made.0 made.1;
+                files = copied_files to (pair ∷ more);
+                comes = vendored to (pair ∷ more) (copied free (pair ∷ more) plan) refl refl refl;
+                placed = files_placed to (pair ∷ more) tree made.0 made.1;
               };
         }
 

@@ -23,7 +23,7 @@ use Rattle.generator_spec.specs.declared.PageFault.{PageFault}
 use Rattle.generator_spec.specs.declared.PageFault.TheVariants.{Absent, TooLarge, KeepsMapsOut}
 use Rattle.generator_spec.specs.declared.Refusal.{Refusal}
 use Rattle.generator_spec.specs.declared.Refusal.TheVariants as refusal
-use Rattle.generator_spec.specs.Lines.{project_line, config_line, page_line, map_file_line, trace_line, line_of, counts_line, served_line, differences_line}
+use Rattle.generator_spec.specs.Lines.{project_line, config_line, page_line, map_file_line, trace_line, line_of, counts_line, served_line, vendored_line, differences_line}
 use Rattle.generator_spec.specs.Lines.{memory_line, read_fault_line, write_fault_line, not_reached_line}
 use Rattle.generator_spec.specs.Ending.{IsDone, IsDifference, IsChecked, Gives, Shaped, Says, Ends, Shaped as shaped, Says as says, Ends as ends}
 use Rattle.generator_spec.specs.Ending.{TellsChain, TellsChain as chain}
@@ -38,74 +38,82 @@ abbrev first_byte : List ℕ → ℕ
 first_byte [] = 0
 first_byte (b ∷ rest) = b
 
+-- the line of a command that was done begins so: with `o`, or that of copies with `v`
+abbrev BeginsDone : ℕ → Type 0
+BeginsDone first = (first ≡ 111) ⊎ (first ≡ 118)
+
 -- a line that isn't that of a command that was done
 abbrev IsAnother : List ℕ → Type 0
-IsAnother line = first_byte line ≢ 111
+IsAnother line = BeginsDone (first_byte line) → ⊥
 
-other_line : (first : ℕ) (line : List ℕ) → first_byte line ≡ first → first ≢ 111 → IsAnother line
-other_line first line e apart same = apart (sym e ∙ same)
+other_line :
+    (first : ℕ) (line : List ℕ) → first_byte line ≡ first → first ≢ 111 → first ≢ 118 → IsAnother line
+other_line first line e apart far (inl same) = apart (sym e ∙ same)
+other_line first line e apart far (inr same) = far (sym e ∙ same)
 
 trace_is_another : (why : TraceFault) → IsAnother (trace_line why)
 trace_is_another (fault.Unservable path url) =
-    other_line 114 (trace_line (fault.Unservable path url)) refl (λ e. omega arith)
+    other_line 114 (trace_line (fault.Unservable path url)) refl (λ e. omega arith) (λ e. omega arith)
 trace_is_another (fault.Refused referrer specifier cause) =
-    other_line 114 (trace_line (fault.Refused referrer specifier cause)) refl (λ e. omega arith)
+    other_line 114 (trace_line (fault.Refused referrer specifier cause)) refl (λ e. omega arith) (λ e. omega arith)
 trace_is_another (fault.Clash referrer first first_to second second_to) =
-    other_line 114 (trace_line (fault.Clash referrer first first_to second second_to)) refl (λ e. omega arith)
+    other_line 114 (trace_line (fault.Clash referrer first first_to second second_to)) refl (λ e. omega arith) (λ e. omega arith)
 trace_is_another (fault.NotModule path reason) =
-    other_line 114 (trace_line (fault.NotModule path reason)) refl (λ e. omega arith)
-trace_is_another (fault.Limit which) = other_line 108 (trace_line (fault.Limit which)) refl (λ e. omega arith)
-trace_is_another fault.ReadFault = other_line 102 read_fault_line refl (λ e. omega arith)
-trace_is_another fault.Memory = other_line 109 memory_line refl (λ e. omega arith)
+    other_line 114 (trace_line (fault.NotModule path reason)) refl (λ e. omega arith) (λ e. omega arith)
+trace_is_another (fault.Limit which) = other_line 108 (trace_line (fault.Limit which)) refl (λ e. omega arith) (λ e. omega arith)
+trace_is_another fault.ReadFault = other_line 102 read_fault_line refl (λ e. omega arith) (λ e. omega arith)
+trace_is_another fault.Memory = other_line 109 memory_line refl (λ e. omega arith) (λ e. omega arith)
 
 page_is_another : (why : PageFault) → IsAnother (page_line why)
-page_is_another Absent = other_line 98 (page_line Absent) refl (λ e. omega arith)
-page_is_another TooLarge = other_line 108 (page_line TooLarge) refl (λ e. omega arith)
+page_is_another Absent = other_line 98 (page_line Absent) refl (λ e. omega arith) (λ e. omega arith)
+page_is_another TooLarge = other_line 108 (page_line TooLarge) refl (λ e. omega arith) (λ e. omega arith)
 page_is_another (KeepsMapsOut (PageUnclear at)) =
-    other_line 114 (page_line (KeepsMapsOut (PageUnclear at))) refl (λ e. omega arith)
+    other_line 114 (page_line (KeepsMapsOut (PageUnclear at))) refl (λ e. omega arith) (λ e. omega arith)
 page_is_another (KeepsMapsOut (TwoMaps at)) =
-    other_line 114 (page_line (KeepsMapsOut (TwoMaps at))) refl (λ e. omega arith)
-page_is_another (KeepsMapsOut NoPlace) = other_line 114 (page_line (KeepsMapsOut NoPlace)) refl (λ e. omega arith)
-page_is_another (KeepsMapsOut page.Memory) = other_line 109 memory_line refl (λ e. omega arith)
+    other_line 114 (page_line (KeepsMapsOut (TwoMaps at))) refl (λ e. omega arith) (λ e. omega arith)
+page_is_another (KeepsMapsOut NoPlace) = other_line 114 (page_line (KeepsMapsOut NoPlace)) refl (λ e. omega arith) (λ e. omega arith)
+page_is_another (KeepsMapsOut page.Memory) = other_line 109 memory_line refl (λ e. omega arith) (λ e. omega arith)
 
 map_file_is_another : (why : MapFileFault) → IsAnother (map_file_line why)
-map_file_is_another map_file.Absent = other_line 98 (map_file_line map_file.Absent) refl (λ e. omega arith)
-map_file_is_another map_file.TooLarge = other_line 108 (map_file_line map_file.TooLarge) refl (λ e. omega arith)
-map_file_is_another (map_file.NotJson at) = other_line 98 (map_file_line (map_file.NotJson at)) refl (λ e. omega arith)
-map_file_is_another map_file.TooDeep = other_line 108 (map_file_line map_file.TooDeep) refl (λ e. omega arith)
+map_file_is_another map_file.Absent = other_line 98 (map_file_line map_file.Absent) refl (λ e. omega arith) (λ e. omega arith)
+map_file_is_another map_file.TooLarge = other_line 108 (map_file_line map_file.TooLarge) refl (λ e. omega arith) (λ e. omega arith)
+map_file_is_another (map_file.NotJson at) = other_line 98 (map_file_line (map_file.NotJson at)) refl (λ e. omega arith) (λ e. omega arith)
+map_file_is_another map_file.TooDeep = other_line 108 (map_file_line map_file.TooDeep) refl (λ e. omega arith) (λ e. omega arith)
 map_file_is_another (map_file.NotObject which) =
-    other_line 98 (map_file_line (map_file.NotObject which)) refl (λ e. omega arith)
+    other_line 98 (map_file_line (map_file.NotObject which)) refl (λ e. omega arith) (λ e. omega arith)
 
 project_is_another : (why : ProjectFault) → IsAnother (project_line why)
-project_is_another project.Absent = other_line 98 (project_line project.Absent) refl (λ e. omega arith)
-project_is_another project.TooLarge = other_line 108 (project_line project.TooLarge) refl (λ e. omega arith)
-project_is_another (project.NotProject at) = other_line 98 (project_line (project.NotProject at)) refl (λ e. omega arith)
-project_is_another (project.Above which) = other_line 108 (project_line (project.Above which)) refl (λ e. omega arith)
+project_is_another project.Absent = other_line 98 (project_line project.Absent) refl (λ e. omega arith) (λ e. omega arith)
+project_is_another project.TooLarge = other_line 108 (project_line project.TooLarge) refl (λ e. omega arith) (λ e. omega arith)
+project_is_another (project.NotProject at) = other_line 98 (project_line (project.NotProject at)) refl (λ e. omega arith) (λ e. omega arith)
+project_is_another (project.Above which) = other_line 108 (project_line (project.Above which)) refl (λ e. omega arith) (λ e. omega arith)
 
 config_is_another : (why : ConfigFault) → IsAnother (config_line why)
-config_is_another (config.BadBase text) = other_line 119 (config_line (config.BadBase text)) refl (λ e. omega arith)
-config_is_another (config.BadPath text) = other_line 119 (config_line (config.BadPath text)) refl (λ e. omega arith)
-config_is_another (config.BadConditions text) = other_line 119 (config_line (config.BadConditions text)) refl (λ e. omega arith)
+config_is_another (config.BadBase text) = other_line 119 (config_line (config.BadBase text)) refl (λ e. omega arith) (λ e. omega arith)
+config_is_another (config.BadPath text) = other_line 119 (config_line (config.BadPath text)) refl (λ e. omega arith) (λ e. omega arith)
+config_is_another (config.BadConditions text) = other_line 119 (config_line (config.BadConditions text)) refl (λ e. omega arith) (λ e. omega arith)
 config_is_another (config.Project why) = project_is_another why
-config_is_another config.NoBase = other_line 119 (config_line config.NoBase) refl (λ e. omega arith)
-config_is_another (config.NotLinked entry) = other_line 114 (config_line (config.NotLinked entry)) refl (λ e. omega arith)
-config_is_another config.TooManyEntries = other_line 108 (config_line config.TooManyEntries) refl (λ e. omega arith)
+config_is_another config.NoBase = other_line 119 (config_line config.NoBase) refl (λ e. omega arith) (λ e. omega arith)
+config_is_another (config.NotLinked entry) = other_line 114 (config_line (config.NotLinked entry)) refl (λ e. omega arith) (λ e. omega arith)
+config_is_another config.TooManyEntries = other_line 108 (config_line config.TooManyEntries) refl (λ e. omega arith) (λ e. omega arith)
 
 refusal_is_another : (why : Refusal) → IsAnother (line_of why)
 refusal_is_another (refusal.Config fault) = config_is_another fault
 refusal_is_another (refusal.Limit which) =
-    other_line 108 (line_of (refusal.Limit which)) refl (λ e. omega arith)
+    other_line 108 (line_of (refusal.Limit which)) refl (λ e. omega arith) (λ e. omega arith)
 refusal_is_another (refusal.Page why) = page_is_another why
 refusal_is_another (refusal.MapFile why) = map_file_is_another why
 refusal_is_another (refusal.Trace why) = trace_is_another why
-refusal_is_another (refusal.Occupied path) = other_line 114 (line_of (refusal.Occupied path)) refl (λ e. omega arith)
-refusal_is_another refusal.PathTooLong = other_line 108 (line_of refusal.PathTooLong) refl (λ e. omega arith)
-refusal_is_another refusal.TooManySegments = other_line 108 (line_of refusal.TooManySegments) refl (λ e. omega arith)
-refusal_is_another refusal.NestedTooDeep = other_line 108 (line_of refusal.NestedTooDeep) refl (λ e. omega arith)
+refusal_is_another (refusal.Occupied path) = other_line 114 (line_of (refusal.Occupied path)) refl (λ e. omega arith) (λ e. omega arith)
+refusal_is_another refusal.PathTooLong = other_line 108 (line_of refusal.PathTooLong) refl (λ e. omega arith) (λ e. omega arith)
+refusal_is_another refusal.TooManySegments = other_line 108 (line_of refusal.TooManySegments) refl (λ e. omega arith) (λ e. omega arith)
+refusal_is_another refusal.NestedTooDeep = other_line 108 (line_of refusal.NestedTooDeep) refl (λ e. omega arith) (λ e. omega arith)
 
 -- a front that begins so is of a line that does
-first_of_front : (count : ℕ) (line : List ℕ) → first_byte (take count line) ≡ 111 → first_byte line ≡ 111
-first_of_front zero line e = absurd (omega arith)
+first_of_front :
+    (count : ℕ) (line : List ℕ) → BeginsDone (first_byte (take count line)) → BeginsDone (first_byte line)
+first_of_front zero line (inl e) = absurd (omega arith)
+first_of_front zero line (inr e) = absurd (omega arith)
 first_of_front (suc count) [] e = e
 first_of_front (suc count) (b ∷ line) e = e
 
@@ -119,17 +127,21 @@ first_of_served : (needs count : ℕ) → 1 ≤ count → first_byte (take count
 first_of_served needs zero some = absurd (omega arith)
 first_of_served needs (suc count) some = refl
 
+first_of_copies : (files count : ℕ) → 1 ≤ count → first_byte (take count (vendored_line files)) ≡ 118
+first_of_copies files zero some = absurd (omega arith)
+first_of_copies files (suc count) some = refl
+
 -- a front of another text, and a byte of that of a command that was done, don't both go out
 no_byte :
     (text done : List ℕ) (out out_after : Option (List ℕ)) (front : List ℕ) (count : ℕ)
-    → IsAnother text → Gives out out_after text → out ≡ Some front → first_byte (take count done) ≡ 111
+    → IsAnother text → Gives out out_after text → out ≡ Some front → BeginsDone (first_byte (take count done))
     → out_after ≡ Some (front ++ take count done) → ⊥
 no_byte text done out out_after front count another gives told first given =
     let one : out_after ≡ Some (front ++ take gives.count text) =
     gives.given ∙ ap (option_map (λ before. before ++ take gives.count text)) told in
     let same : front ++ take gives.count text ≡ front ++ take count done = cc in
     let fronts = append_cancel_left front (take gives.count text) (take count done) same in
-    another (first_of_front gives.count text (ap first_byte fronts ∙ first))
+    another (first_of_front gives.count text (subst BeginsDone (sym (ap first_byte fronts)) first))
 
 -- ---- what goes out
 
@@ -161,8 +173,9 @@ strict_first line (stricts.syntax name at is) = ap first_byte is
 strict_first line (stricts.requests name is) = ap first_byte is
 
 -- a text that begins with another byte is another
-other_first : (line : List ℕ) (more : List (List ℕ)) (byte : ℕ) → first_byte line ≡ suc byte → suc byte ≢ 111 → IsAnother (concat (line ∷ more))
-other_first line more byte is other e = other (sym (first_of_appended line (concat more) byte is) ∙ e)
+other_first : (line : List ℕ) (more : List (List ℕ)) (byte : ℕ) → first_byte line ≡ suc byte → suc byte ≢ 111 → suc byte ≢ 118 → IsAnother (concat (line ∷ more))
+other_first line more byte is other copied =
+    other_line (suc byte) (concat (line ∷ more)) (first_of_appended line (concat more) byte is) other copied
 
 modules_text :
     (command : Command) (strict : List (List ℕ)) (needs : ℕ) → AreStrictLines command strict
@@ -170,7 +183,7 @@ modules_text :
 modules_text command strict needs are.unasked = inl refl
 modules_text command strict needs (are.strictly [] few all) = inl refl
 modules_text command strict needs (are.strictly (line ∷ more) few all) =
-    inr (other_first line (more ++ differences_line (length (line ∷ more)) ∷ []) 114 (strict_first line (All-head IsStrictLine line more all)) (λ e. omega (arith, e)))
+    inr (other_first line (more ++ differences_line (length (line ∷ more)) ∷ []) 114 (strict_first line (All-head IsStrictLine line more all)) (λ e. omega (arith, e)) (λ e. omega (arith, e)))
 
 -- a check is done, or its text begins with a difference or with the line of a module
 checked_text :
@@ -179,7 +192,7 @@ checked_text :
     → (check_status (differing ++ strict) ≡ 0) ⊎ IsAnother (concat (check_lines needs (differing ++ strict)))
 checked_text command [] strict needs all are_so = modules_text command strict needs are_so
 checked_text command (line ∷ more) strict needs all are_so =
-    inr (other_first line ((more ++ strict) ++ differences_line (length (line ∷ (more ++ strict))) ∷ []) 99 (difference_first line (All-head IsDifference line more all)) (λ e. omega (arith, e)))
+    inr (other_first line ((more ++ strict) ++ differences_line (length (line ∷ (more ++ strict))) ∷ []) 99 (difference_first line (All-head IsDifference line more all)) (λ e. omega (arith, e)) (λ e. omega (arith, e)))
 
 module _ (words : List (List ℕ)) (before after : FolderState) (status : ℕ) (lines : List (List ℕ))
     (done : status ≡ 0 → IfSome before.holds (λ tree. IsDone words tree after.holds)) where
@@ -196,7 +209,7 @@ module _ (words : List (List ℕ)) (before after : FolderState) (status : ℕ) (
   explained_line own path (chain.own_page same s l) = inr (done s)
   explained_line own path (chain.reached requests other begins stops s l) = inr (done s)
   explained_line own path (chain.not_reached other s l) =
-      inl (other_text (not_reached_line path) lines l (other_line 110 (not_reached_line path) refl (λ e. omega arith)))
+      inl (other_text (not_reached_line path) lines l (other_line 110 (not_reached_line path) refl (λ e. omega arith) (λ e. omega arith)))
 
   shaped_line : IsPlain words → Shaped words status lines → IsAnother (concat lines) ⊎ WasDone
   shaped_line plain (shaped.not_plain text none s l) = absurd (none plain)
@@ -210,26 +223,28 @@ module _ (words : List (List ℕ)) (before after : FolderState) (status : ℕ) (
 
   said_line : IsPlain words → Says words before after status lines → IsAnother (concat lines) ⊎ WasDone
   said_line plain (says.outcome shape o l w) = shaped_line plain shape
-  said_line plain (says.memory s t k l w) = inl (other_text memory_line lines t (other_line 109 memory_line refl (λ e. omega arith)))
+  said_line plain (says.memory s t k l w) = inl (other_text memory_line lines t (other_line 109 memory_line refl (λ e. omega arith) (λ e. omega arith)))
   said_line plain (says.read_fault command is_command s t k rose w) =
-      inl (other_text read_fault_line lines t (other_line 102 read_fault_line refl (λ e. omega arith)))
+      inl (other_text read_fault_line lines t (other_line 102 read_fault_line refl (λ e. omega arith) (λ e. omega arith)))
   said_line plain (says.write_fault line counted stops s t l rose) =
-      inl (other_text write_fault_line lines t (other_line 102 write_fault_line refl (λ e. omega arith)))
+      inl (other_text write_fault_line lines t (other_line 102 write_fault_line refl (λ e. omega arith) (λ e. omega arith)))
   said_line plain (says.copy_fault able stops s t l rose) =
-      inl (other_text write_fault_line lines t (other_line 102 write_fault_line refl (λ e. omega arith)))
+      inl (other_text write_fault_line lines t (other_line 102 write_fault_line refl (λ e. omega arith) (λ e. omega arith)))
 
   pub end_tells :
       (out out_after : SinkState) (result : ℕ) → Says words before after status lines
       → Ends status (concat lines) out out_after result → Tells (IsPlain words) out.got out_after.got WasDone
   end_tells out out_after result s ended =
       let gives = gives_of status (concat lines) out out_after result ended in
-      let only = λ (plain : IsPlain words) (text front : List ℕ) (count : ℕ) (told : out.got ≡ Some front) (first : first_byte (take count text) ≡ 111) (given : out_after.got ≡ Some (front ++ take count text)).
+      let only = λ (plain : IsPlain words) (text front : List ℕ) (count : ℕ) (told : out.got ≡ Some front) (first : BeginsDone (first_byte (take count text))) (given : out_after.got ≡ Some (front ++ take count text)).
       ⊎_elim (λ another. absurd (no_byte (concat lines) text out.got out_after.got front count another gives told first given)) (λ written. written) (said_line plain s) in
       record {
         text = concat lines;
         gives = gives;
         only_where_done = λ plain front modules requests mappings count told some given.
-            only plain (counts_line modules requests mappings) front count told (first_of_counts modules requests mappings count some) given;
+            only plain (counts_line modules requests mappings) front count told (inl (first_of_counts modules requests mappings count some)) given;
         only_where_served = λ plain front needs count told some given.
-            only plain (served_line needs) front count told (first_of_served needs count some) given;
+            only plain (served_line needs) front count told (inl (first_of_served needs count some)) given;
+        only_where_copied = λ plain front files count told some given.
+            only plain (vendored_line files) front count told (inr (first_of_copies files count some)) given;
       }

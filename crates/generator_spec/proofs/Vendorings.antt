@@ -1,7 +1,7 @@
 -- What is copied into a folder is one list of files, which are written or refused in one way.
 use Rattle.std.proofs.Common.{◌≡◌, ◌≢◌, ◌++◌, ℕ, List, [], ◌∷◌, Option, Some, None, refl, sym, ap, ◌∙◌, subst}
 use Rattle.std.specs.FinMap.{get}
-use Rattle.std.specs.Prelude.{All, Contains}
+use Rattle.std.specs.Prelude.{All, Bool, Contains, IfSome, if◌then◌else◌, true, false}
 use Rattle.std.proofs.lemmas.List.Elements.{All-nil, All-cons}
 use Rattle.tree_spec.proofs.Contained.{contains_here, contains_there}
 use Rattle.tree_spec.specs.declared.Entry.TheVariants.{Stored}
@@ -9,13 +9,17 @@ use Rattle.tree_spec.specs.Paths.{IsPath}
 use Rattle.tree_spec.specs.Trees.{Tree}
 use Rattle.trace_spec.specs.Modules.{Config}
 use Rattle.words_spec.proofs.PlainIsRead.{one_asked}
-use Rattle.words_spec.specs.PlainWords.{vendoring}
-use Rattle.config_spec.specs.Words.{VendorsTo}
+use Rattle.words_spec.specs.PlainWords.{vendoring, measuring}
+use Rattle.config_spec.specs.declared.Command.{Command}
+use Rattle.config_spec.specs.declared.Command.TheVariants.{Vendor, Check, List as Lists, Why}
+use Rattle.config_spec.specs.Projects.{IsConfigOf}
+use Rattle.config_spec.specs.Words.{VendorsTo, command_of, is_page_path}
 use Rattle.vendor_spec.proofs.Plans.{one_plan, plan_fits}
 use Rattle.vendor_spec.proofs.Writes.{goals_behind, placed_at}
 use Rattle.vendor_spec.specs.Vendored.{Pair, IsPlan, Written, goals, nothing, one_more}
 use Rattle.generator_spec.specs.declared.Refusal.{Refusal}
 use Rattle.generator_spec.specs.Commands.{NewFile, new_file}
+use Rattle.generator_spec.specs.Ending.{HasCopied, IsCarried, IsDone, IsDone as done}
 use Rattle.generator_spec.specs.Outcome.{FilesPlaced}
 use Rattle.generator_spec.specs.Vendoring.{copied_files, RefusesCopies, RefusesCopies as copies}
 
@@ -86,3 +90,37 @@ pub written_files : (to : List ℕ) (pairs : List Pair) (tree after : Tree) → 
 written_files to [] tree after same = subst (λ t. Written tree [] t) (sym same) (nothing tree)
 written_files to (pair ∷ pairs) tree after placed =
     one_more tree placed.0 after (to ++ pair.0, pair.1) (goals to pairs) placed.1 (written_files to pairs placed.0 after placed.2)
+
+-- ---- what is done
+
+only_command : (test : Bool) (some other : Command) → (if test then Some some else None) ≡ Some other → some ≡ other
+only_command true some other e = cc
+only_command false some other e = absurd (cc)
+
+-- words that ask for copies ask for no other command
+copies_alone : (words : List (List ℕ)) (tree : Tree) (to : List ℕ) (command : Command) (config : Config)
+    → VendorsTo words to → IsConfigOf words tree command config → Vendor ≡ command
+copies_alone words tree to command config asks is =
+    only_command (is_page_path to) Vendor command
+    (subst (λ a. command_of a ≡ Some command) (one_asked words is.asked (vendoring to) is.asks asks) is.is)
+
+copied_where_done : (words : List (List ℕ)) (tree : Tree) (told : Option Tree) (to : List ℕ) → VendorsTo words to
+    → IsDone words tree told → HasCopied words tree told
+copied_where_done words tree told to asks (done.linked l) =
+    absurd (subst (λ c. IsCarried c l.map l.carrier)
+    (sym (copies_alone words tree to l.generated.command l.generated.config asks l.generated.is_config)) l.carried)
+copied_where_done words tree told to asks (done.served s e) =
+    absurd (let same : Vendor ≡ Check = copies_alone words tree to Check s.config asks s.is_config in cc)
+copied_where_done words tree told to asks (done.listed s e) =
+    absurd (let same : Vendor ≡ Lists = copies_alone words tree to Lists s.config asks s.is_config in cc)
+copied_where_done words tree told to asks (done.explained s e) =
+    absurd (let same : Vendor ≡ Why = copies_alone words tree to Why s.config asks s.is_config in cc)
+copied_where_done words tree told to asks (done.vendored h) = h
+copied_where_done words tree told to asks (done.measured m e) =
+    absurd (let same : measuring m.number ≡ vendoring to =
+    one_asked words (measuring m.number) (vendoring to) m.measures asks in cc)
+
+pub if_vendored : (words : List (List ℕ)) (held told : Option Tree) (to : List ℕ) → VendorsTo words to
+    → IfSome held (λ tree. IsDone words tree told) → IfSome held (λ tree. HasCopied words tree told)
+if_vendored words None told to asks d = tt
+if_vendored words (Some tree) told to asks d = copied_where_done words tree told to asks d

@@ -20,10 +20,10 @@ use Rattle.generator_spec.specs.declared.Refusal.TheVariants.{Config as Configur
 use Rattle.generator_spec.specs.Statuses.{LeavesTree, done_status, words_status, read_fault_status}
 use Rattle.generator_spec.specs.Statuses.{write_fault_status, memory_status}
 use Rattle.config_spec.specs.declared.ConfigFault.{ConfigFault}
-use Rattle.config_spec.specs.Words.{IsPlain, RefusesWords}
-use Rattle.generator_spec.specs.Lines.{status_of, counts_line, served_line, memory_line}
+use Rattle.config_spec.specs.Words.{IsPlain, RefusesWords, VendorsTo}
+use Rattle.generator_spec.specs.Lines.{status_of, counts_line, served_line, vendored_line, memory_line}
 use Rattle.generator_spec.specs.Outcome.{Outcome}
-use Rattle.generator_spec.specs.Ending.{CanRefuse, IsDone, StopsWriting, StopsCopying, Gives, TellsRefusal}
+use Rattle.generator_spec.specs.Ending.{CanRefuse, HasCopied, IsDone, StopsWriting, StopsCopying, Gives, TellsRefusal}
 
 -- own: a front of one text went out; and of plain words, a byte of the line of a command that was done only where it
 -- was
@@ -36,6 +36,9 @@ pub record Tells (plain : Type 0) (out out_after : Option (List ℕ)) (done : Ty
   pub only_where_served :
       plain → (front : List ℕ) (needs count : ℕ) → out ≡ Some front → 1 ≤ count
       → out_after ≡ Some (front ++ take count (served_line needs)) → done
+  pub only_where_copied :
+      plain → (front : List ℕ) (files count : ℕ) → out ≡ Some front → 1 ≤ count
+      → out_after ≡ Some (front ++ take count (vendored_line files)) → done
 
 -- own: no count of faults rose
 pub record Quiet (before after : FolderState) (out out_after : SinkState) : Type 0 where
@@ -121,6 +124,9 @@ pub record Promises (words : List (List ℕ)) (before after : FolderState) (out 
   pub statuses : (result ≡ done_status) ⊎ (result ≡ write_fault_status) ⊎ LeavesTree result
   pub kept : LeavesTree result → after.holds ≡ before.holds
   pub done : result ≡ done_status → IfSome before.holds (λ tree. IsDone words tree after.holds)
+  pub copied :
+      (to : List ℕ) → VendorsTo words to → result ≡ done_status
+      → IfSome before.holds (λ tree. HasCopied words tree after.holds)
   pub write_fault :
       result ≡ write_fault_status
       → (after.holds ≡ before.holds) ⊎ (IfSome before.holds (λ tree. IsDone words tree after.holds)

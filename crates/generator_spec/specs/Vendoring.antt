@@ -5,9 +5,9 @@
 --     RefusesCopies tree to paths why   the files at these paths aren't copied there: the first reason in its order
 --     IsCopyRefusal to why              they can be refused so, whatever the tree holds
 --     CanCopy words                     the words ask for copies, and can have a config
---     IsBlocked words tree              they ask for copies below a file
+--     IsBlocked words tree              they ask for copies, of which there are some, below a file
 use Rattle.std.specs.FinMap.{get}
-use Rattle.std.specs.Prelude.{◌≡◌, ◌++◌, ℕ, List, map, Some, None}
+use Rattle.std.specs.Prelude.{◌≡◌, ◌++◌, ◌∷◌, ℕ, List, map, Some, None}
 use Rattle.tree_spec.specs.declared.Entry.{Entry}
 use Rattle.tree_spec.specs.declared.Entry.TheVariants.{Stored}
 use Rattle.tree_spec.specs.Paths.{IsAbove}
@@ -58,10 +58,12 @@ pub record CanCopy (words : List (List ℕ)) : Type 0 where
   pub config : Config
   pub is_config : IsConfigFor words Vendor config
 
--- own: nothing can be written there
+-- own: some files are to be copied, and nothing can be written there
 pub record IsBlocked (words : List (List ℕ)) (tree : Tree) : Type 0 where
   pub to : List ℕ
-  pub asks : VendorsTo words to
+  pub pair : Pair
+  pub more : List Pair
+  pub vendors : Vendors words tree to (pair ∷ more)
   pub file : List ℕ
   pub bytes : List ℕ
   pub stands : get tree file ≡ Some (Stored bytes)

@@ -78,6 +78,7 @@ pub first_ready : (r : List ℕ) → IsReady [] r 0
 first_ready r = record {
   sorted = tt;
   know = λ i node e. absurd (none-some node e);
+  free = λ node c none. absurd (contains_none node c);
   before = λ s p m k c. absurd (contains_none p c);
   there = λ s m c. absurd (omega arith);
 }
@@ -87,6 +88,12 @@ module _ (done : List Need) (targets : List (List ℕ)) (nodes : List Node) (bui
   next_ready = record {
     sorted = built.sorted;
     know = built.know;
+    free = λ node c none.
+        let of = built.only node c in
+        elim (contains_cases node.place of.0.referrer (above of.0.referrer) of.2) [
+          | inl same ↦ absurd (built.free node c none of.0 of.1 same)
+          | inr higher ↦ (of.0.referrer, higher)
+        ];
     before = λ s p m k c.
         let far : Before last.referrer (take s r) = far_before last.referrer r s turn (omega (arith, m)) k in
         elim (is_last.behind p c) [

@@ -127,6 +127,7 @@ module _ (nodes : List Node) (r : List ℕ) (size : ℕ) (ready : IsReady nodes 
   front_known l = record {
     sorted = ready.sorted;
     know = ready.know;
+    free = ready.free;
     before = λ p c. ready.before size p (omega arith) (omega arith) c;
     there = λ h c. let f = above_front r size h l c in
         subst (Contains (places_of nodes)) (sym f.2) (ready.there f.0 f.1 (above_from r (take f.0 r) (record {
@@ -139,6 +140,7 @@ module _ (nodes : List Node) (r : List ℕ) (size : ℕ) (ready : IsReady nodes 
   skipped l n = record {
     sorted = ready.sorted;
     know = ready.know;
+    free = ready.free;
     before = λ s p m k c. ready.before s p (omega arith) k c;
     there = λ s m c. elim (cases_eq s size) [
       | inl same ↦ absurd (n (subst (λ k. Contains (above r) (take k r)) same c))
@@ -146,10 +148,15 @@ module _ (nodes : List Node) (r : List ℕ) (size : ℕ) (ready : IsReady nodes 
     ];
   }
 
-  pub grown_front : (after : List Node) → size < length r → IsAdded nodes (take size r) None after → IsReady after r (size + 1)
-  grown_front after l a = record {
+  pub grown_front : (after : List Node) → size < length r → Contains (above r) (take size r)
+      → IsAdded nodes (take size r) None after → IsReady after r (size + 1)
+  grown_front after l c a = record {
     sorted = added_sorted nodes (take size r) None after a ready.sorted (λ p c. ready.before size p (omega arith) (omega arith) c);
     know = added_know nodes (take size r) None after a ready.know;
+    free = λ node at none. elim (added_node nodes (take size r) None after a node at) [
+      | inl inside ↦ ready.free node inside none
+      | inr last ↦ (r, subst (Contains (above r)) (sym last.0) c)
+    ];
     before = λ s p m k c. elim (added_place nodes (take size r) None after a p c) [
       | inl inside ↦ ready.before s p (omega arith) k inside
       | inr same ↦ subst (λ q. Before q (take s r)) (take-take size s r (omega arith) ∙ same) (front_before (take s r) size (let n = length-take-le s r k in omega (arith, n, m)))
@@ -176,7 +183,7 @@ growing_skipped before r size after g l n = record { ready = skipped after r siz
 
 pub growing_more : (before : List Node) (r : List ℕ) (size : ℕ) (now after : List Node) → ((p : List ℕ) → Contains (places_of before) p → Before p (take size r)) → IsGrowing before r size now → size < length r → Contains (above r) (take size r) → IsAdded now (take size r) None after → IsGrowing before r (size + 1) after
 growing_more before r size now after behind g l c a = record {
-  ready = grown_front now r size g.ready after l a;
+  ready = grown_front now r size g.ready after l c a;
   kept = λ node at. still_node now (take size r) None after a node (g.kept node at);
   only = λ node at. elim (added_node now (take size r) None after a node at) [
     | inl inside ↦ g.only node inside
@@ -194,6 +201,7 @@ whole_known nodes r size ready e =
     record {
       sorted = ready.sorted;
       know = ready.know;
+      free = ready.free;
       before = λ p c. subst (Before p) whole (ready.before size p (omega arith) (omega (arith, e)) c);
       there = λ h c. let a = above_is r h c in
           subst (Contains (places_of nodes)) (sym a.front.is_front) (ready.there a.front.size (let l = a.front.shorter in omega (arith, l, e)) (subst (Contains (above r)) a.front.is_front c));

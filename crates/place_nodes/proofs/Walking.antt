@@ -13,7 +13,7 @@ use mathlib.Core.Logic.{inl, inr}
 use Rattle.layout_spec.proofs.Contained.{contains_at, contains_cases, contains_none}
 use Rattle.layout_spec.proofs.NestedPlaces.{above_place, next_above}
 use Rattle.layout_spec.proofs.PlaceLemmas.{above_is, above_from, folder_test, folder_from_test}
-use Rattle.layout_spec.specs.Places.{above, place_above, is_folder, IsShorterFront}
+use Rattle.layout_spec.specs.Places.{above, place_above, is_folder, IsFolder, IsShorterFront}
 use Rattle.fewest_spec.specs.Fewest.{Before}
 use Rattle.fewest_spec.specs.Wishes.{Ascending}
 use Rattle.fewest_spec.proofs.Orders.{never_itself, not_both}
@@ -208,6 +208,22 @@ front_of place higher rest e some =
 pub top_front : (place higher rest : List ℕ) → place ≡ higher ++ rest → (length rest ≡ 0 → ⊥) → length higher ≡ 0 → Contains (above place) higher
 unfolding front_of
 top_front place higher rest e some none = above_from place higher (record { front = front_of place higher rest e some; folder = inl none })
+
+-- what is above some text is above each text of which it is a shorter front
+pub free_front : (place higher rest text : List ℕ) → place ≡ higher ++ rest → (length rest ≡ 0 → ⊥)
+    → Contains (above text) higher → Contains (above place) higher
+free_front place higher rest text e some c = by (above_is text higher c).folder
+  where
+    front : IsShorterFront place higher
+    front = front_of place higher rest e some
+
+    by : ((above_is text higher c).front.size ≡ 0) ⊎ IsFolder higher → Contains (above place) higher
+    by (inr f) = above_from place higher (record { front = front; folder = inr f })
+    by (inl none) =
+        let l = ap length (above_is text higher c).front.is_front
+        ∙ length-take-le (above_is text higher c).front.size text
+        (let s = (above_is text higher c).front.shorter in omega arith) in
+        top_front place higher rest e some (omega (arith, l, none))
 
 pub folder_front : (place higher rest : List ℕ) (is : Bool) → place ≡ higher ++ rest → (length rest ≡ 0 → ⊥) → (length higher ≡ 0 → ⊥) → is ≡ is_folder higher → (is ≡ true) ↔ Contains (above place) higher
 folder_front place higher rest is e some nonempty test = (

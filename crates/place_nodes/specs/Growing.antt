@@ -6,13 +6,14 @@ use Rattle.std.specs.Prelude.{◌≡◌, ◌≤◌, ◌<◌, ◌⊎◌, ℕ, Lis
 use Rattle.layout_spec.specs.Places.{above, places}
 use Rattle.fewest_spec.specs.Fewest.{Before}
 use Rattle.fewest_spec.specs.Wishes.{Ascending}
-use Rattle.place_nodes.specs.Known.{KnowAbove}
+use Rattle.place_nodes.specs.Known.{KnowAbove, StandAbove}
 use Rattle.place_nodes.specs.Nodes.{IsAbove, places_of}
 use Rattle.place_nodes.specs.declared.nodes.Node.{Node}
 
 pub record IsReady (nodes : List Node) (referrer : List ℕ) (size : ℕ) : Type 0 where
   pub sorted : Ascending (places_of nodes)
   pub know : KnowAbove nodes
+  pub free : StandAbove nodes
   pub before :
       (s : ℕ) (p : List ℕ) → size ≤ s → s ≤ length referrer → Contains (places_of nodes) p → Before p (take s referrer)
   pub there : (s : ℕ) → s < size → Contains (above referrer) (take s referrer) → Contains (places_of nodes) (take s referrer)

@@ -37,7 +37,7 @@ pub(crate) fn above_of(alloc: Global, nodes: &[Node], place: &str) -> Result<Opt
         let Some(node) = node_at(nodes, number) else {
             break;
         };
-        if is_above(alloc, node.place.as_str(), place)? {
+        if is_above(alloc, node, place)? {
             return Ok(Some(number));
         }
         next = node.above;
@@ -45,15 +45,21 @@ pub(crate) fn above_of(alloc: Global, nodes: &[Node], place: &str) -> Result<Opt
     Ok(None)
 }
 
-/// Whether the first of the places is one above the other.
-fn is_above(alloc: Global, higher: &str, place: &str) -> Result<bool, Memory>
-    ensures { IfOk result (λ is. IsTrue is ↔ Contains (above place.now) higher.now) }
+/// Whether a node's place is one above another place. Where it has no target of its own it is known to be a folder or
+/// the top level.
+fn is_above(alloc: Global, node: &Node, place: &str) -> Result<bool, Memory>
+    requires { node.now.own ≡ None → (text : List ℕ) × Contains (above text) node.now.place }
+    ensures { IfOk result (λ is. IsTrue is ↔ Contains (above place.now) node.now.place) }
 {
+    let higher = node.place.as_str();
     let Some(rest) = rest_of(higher, place) else {
         return Ok(false);
     };
     if rest.is_empty() {
         return Ok(false);
+    }
+    if node.own.is_none() {
+        return Ok(true);
     }
     if higher.is_empty() {
         return Ok(true);

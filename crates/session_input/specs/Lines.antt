@@ -2,7 +2,8 @@
 --     reading_of said behind          how it is read with what comes behind the line
 --     file_reading path count behind  how the bytes of a file are read
 --     is_entry text                   the bytes are an entry's
---     word_reading line behind, last_word_reading line behind     how a line is read that is one word, one of the last two
+--     word_reading line behind, last_word_reading line behind     how a line is read that is one word, one of the last
+--                                     two
 use Rattle.std.specs.Str.{is_utf8}
 use Rattle.std.specs.Prelude.{◌∷◌, [], ℕ, Bool, false, List, take, drop, codes}
 use Rattle.session_spec.specs.declared.Change.TheVariants.{Link, Unlink, Drop}

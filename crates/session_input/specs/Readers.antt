@@ -62,7 +62,8 @@ pub record Grows (before : Waiting) (more : List ℕ) (after : Waiting) : Type 0
 
 -- ---- a take
 
-pub record FillsFront (before : SourceState) (most : ℕ) (filled : List ℕ) (count : ℕ) (after : SourceState) : Type 0 where
+pub record FillsFront (before : SourceState) (most : ℕ) (filled : List ℕ) (count : ℕ)
+    (after : SourceState) : Type 0 where
   pub few : count ≤ most
   pub within : count ≤ length filled
   pub takes : Takes before (take count filled) after

@@ -1,7 +1,8 @@
 ghost use Rattle.std.specs.Prelude.{◌≡◌, ◌&&◌, ℕ, List, true, false, bytes_eq, IfOk, MatchOption};
 ghost use Rattle.std.specs.Str.{is_utf8};
 ghost use Rattle.url_spec.specs.PathTests.{is_path};
-ghost use Rattle.session_spec.specs.declared.Change.TheVariants.{Link as Linking, Unlink as Unlinking, Drop as Dropping};
+ghost use Rattle.session_spec.specs.declared.Change.TheVariants.{Link as Linking, Unlink as Unlinking};
+ghost use Rattle.session_spec.specs.declared.Change.TheVariants.{Drop as Dropping};
 ghost use Rattle.session_spec.specs.SessionLines.{changes, order_of, if_text, if_path, one_line, put_line, cut_last};
 ghost use Rattle.session_input.specs.Lines.{is_entry, reading_of, word_reading, last_word_reading};
 

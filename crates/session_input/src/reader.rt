@@ -37,7 +37,8 @@ pub struct SessionInput {
 impl SessionInput {
     ghost use Rattle.session_spec.specs.SessionLines.{changes, one_line, read_line};
     ghost use Rattle.session_input.specs.Lines.{reading_of, file_reading};
-    ghost use Rattle.session_input.specs.Readers.{waiting, order_of, IsFresh, Grows, Comes, FindsEnd, ReadsAs, IsPassed};
+    ghost use Rattle.session_input.specs.Readers.{waiting, order_of, IsFresh, Grows, Comes};
+    ghost use Rattle.session_input.specs.Readers.{FindsEnd, ReadsAs, IsPassed};
     ghost use Rattle.session_input.specs.Readers.{TurnsTo, ReadsNext};
 
     /// A reader that took nothing yet.

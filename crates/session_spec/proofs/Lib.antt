@@ -14,4 +14,5 @@ pub mod FaultsOfEdits
 pub mod SessionLooking
 pub mod SessionSpending
 pub mod FreshMaps
+pub mod RefusalStatuses
 pub mod SessionsPromise

@@ -6,16 +6,22 @@ use Rattle.tree_spec.specs.Limits.{limit_number}
 use Rattle.tree_spec.specs.declared.LimitName.TheVariants.{Session}
 use Rattle.session_spec.specs.declared.Change.{Change}
 use Rattle.session_spec.specs.Conversations.{makes, holds, shows}
-use Rattle.session_spec.specs.SessionSteps.{MakesEdits, begun, edits, collects, shows_it, SpendsFor, most_steps}
+use Rattle.session_spec.specs.SessionSteps.{MakesEdits, begun, edits, collects, shows_it, SpendsFor, SessionSpends, most_steps}
 use Rattle.session_spec.proofs.Conversing.{at_on}
 use Rattle.session_spec.proofs.LinesOn.{rest_on}
 use Rattle.session_spec.proofs.Talking.{allowed_front}
 
-few_by_none : (before after most : ℕ) → after ≤ before → after ≤ before + 0 * most
+pub few_by_none : (before after most : ℕ) → after ≤ before → after ≤ before + 0 * most
 few_by_none before after most few = omega (arith, few)
 
 pub spends_nothing : (input : List ℕ) (before after : ℕ) → after ≤ before → SpendsFor input before after
 spends_nothing input before after few = record { edits = 0; held = None; behind = input; made = begun; few = few_by_none before after most_steps few }
+
+more_steps : (spent most : ℕ) → spent ≤ spent + most
+more_steps spent most = omega arith
+
+pub none_spent : (taken : List ℕ) (spent : ℕ) → SessionSpends taken spent spent
+none_spent taken spent = spends_nothing (take (limit_number Session) taken) (spent + most_steps) spent (more_steps spent most_steps)
 
 pub edits_on : (input more : List ℕ) (count : ℕ) (held : Option (List Change)) (behind : List ℕ) → MakesEdits input count held behind → MakesEdits (input ++ more) count held (behind ++ more)
 edits_on input more _ _ _ begun = begun

@@ -21,6 +21,7 @@ use Rattle.session_spec.specs.SessionRuns as runs
 use Rattle.session_spec.specs.SessionRuns.{SessionComesTo, RepliesTo, NoFault, IsSessionShaped, SessionSays, SessionStops, SessionEnds}
 use Rattle.session_spec.specs.TakenInput.{IsFront, Takes}
 use Rattle.session_spec.proofs.FreshMaps.{replies_are_front}
+use Rattle.session_spec.proofs.RefusalStatuses.{refusal_is_other}
 use Rattle.session_spec.proofs.WholeSessions.{one_session}
 
 -- ---- statuses
@@ -62,17 +63,19 @@ record IsOwnStatus (status : ℕ) : Type 0 where
   pub is : IsStatus status
   pub not_read : status ≢ 4
   pub not_written : status ≢ 5
+  pub other : status ≢ 10
 
 own_status : (status : ℕ) (text : List ℕ) → IsSessionShaped status text → IsOwnStatus status
-own_status status text (runs.ended front opens e whole) = record { is = inl e; not_read = λ f. omega (arith, e, f); not_written = λ f. omega (arith, e, f) }
+own_status status text (runs.ended front opens e whole) = record { is = inl e; not_read = λ f. omega (arith, e, f); not_written = λ f. omega (arith, e, f); other = λ f. omega (arith, e, f) }
 own_status status text (runs.refused_line front number opens e whole) =
-    record { is = inr (inr (inr (inr (inr (inr (inr (inl e))))))); not_read = λ f. omega (arith, e, f); not_written = λ f. omega (arith, e, f) }
+    record { is = inr (inr (inr (inr (inr (inr (inr (inl e))))))); not_read = λ f. omega (arith, e, f); not_written = λ f. omega (arith, e, f); other = λ f. omega (arith, e, f) }
 own_status status text (runs.too_long front opens e whole) =
-    record { is = inr (inr (inr (inr (inl e)))); not_read = λ f. omega (arith, e, f); not_written = λ f. omega (arith, e, f) }
+    record { is = inr (inr (inr (inr (inl e)))); not_read = λ f. omega (arith, e, f); not_written = λ f. omega (arith, e, f); other = λ f. omega (arith, e, f) }
 own_status status text (runs.unopened why can e whole) = record {
   is = subst IsStatus (sym e) (refusal_status why can);
   not_read = λ f. not_read why can (sym e ∙ f);
   not_written = λ f. not_written why can (sym e ∙ f);
+  other = λ f. refusal_is_other why (sym e ∙ f);
 }
 
 -- ---- a session
@@ -83,7 +86,7 @@ module _ (before after : FolderState) (source later : SourceState) (taken : List
 
   says_status : (status : ℕ) (text : List ℕ) → SaysSo status text → IsStatus status
   says_status status text (runs.outcome shape none here whole) = (own_status status text shape).is
-  says_status status text (runs.memory front none told e is) = inr (inr (inr (inr (inr (inr (inr (inr e)))))))
+  says_status status text (runs.memory front none told e is) = inr (inr (inr (inr (inr (inr (inr (inr (inl e))))))))
   says_status status text (runs.look_fault front rose same told e is) = inr (inr (inr (inr (inr (inl e)))))
   says_status status text (runs.take_fault front same rose told e is) = inr (inr (inr (inr (inr (inl e)))))
 
@@ -98,6 +101,12 @@ module _ (before after : FolderState) (source later : SourceState) (taken : List
   says_write status text (runs.memory front none told e is) five = omega (arith, e, five)
   says_write status text (runs.look_fault front rose same told e is) five = omega (arith, e, five)
   says_write status text (runs.take_fault front same rose told e is) five = omega (arith, e, five)
+
+  says_other : (status : ℕ) (text : List ℕ) → SaysSo status text → status ≢ 10
+  says_other status text (runs.outcome shape none here whole) ten = (own_status status text shape).other ten
+  says_other status text (runs.memory front none told e is) ten = omega (arith, e, ten)
+  says_other status text (runs.look_fault front rose same told e is) ten = omega (arith, e, ten)
+  says_other status text (runs.take_fault front same rose told e is) ten = omega (arith, e, ten)
 
   says_looks : (status : ℕ) (text : List ℕ) → SaysSo status text → after.look_faults ≢ before.look_faults → status ≡ 4
   says_looks status text (runs.outcome shape none here whole) other = absurd (other none.0)
@@ -129,6 +138,11 @@ module _ (before after : FolderState) (source later : SourceState) (taken : List
     stops_write (runs.said status text s (ending.said e got same)) five = absurd (says_write status text s (sym e ∙ five))
     stops_write (runs.said status text s (ending.output_fault e gives rose)) five = rose
     stops_write (runs.cut_off text none told e gives rose) five = rose
+
+    stops_other : StopsSo → result ≢ 10
+    stops_other (runs.said status text s (ending.said e got same)) ten = says_other status text s (sym e ∙ ten)
+    stops_other (runs.said status text s (ending.output_fault e gives rose)) ten = omega (arith, e, ten)
+    stops_other (runs.cut_off text none told e gives rose) ten = omega (arith, e, ten)
 
     stops_shows : StopsSo → ShowsFaults before after source later out out_after result
     stops_shows (runs.said status text s (ending.said e got same)) = record {
@@ -180,6 +194,7 @@ module _ (before after : FolderState) (source later : SourceState) (taken : List
 pub sessions_keep_promises : SessionsKeepPromises
 sessions_keep_promises before after source later out out_after result spent spent_after is = record {
   statuses = stops_status before after source later is.taken out out_after result is.stops;
+  other = stops_other before after source later is.taken out out_after result is.stops;
   kept = (is.tree, is.writes);
   read = stops_read before after source later is.taken out out_after result is.stops;
   write = stops_write before after source later is.taken out out_after result is.stops;

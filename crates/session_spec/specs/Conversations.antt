@@ -8,7 +8,8 @@
 --     Conversation is_more state number at out status     from this turn on, at the line with this number, this is
 --                                     replied, and the session ends with this status
 --     Answers state input out status  so to the lines of a whole input, of which no more is read than the limit allows
-use Rattle.std.specs.Prelude.{◌+◌, ◌++◌, ◌∷◌, [], nat_lt, ℕ, Bool, true, false, List, length, take, codes, Option, Some, None}
+use Rattle.std.specs.Prelude.{◌+◌, ◌++◌, ◌∷◌, [], nat_lt, ℕ, Bool, true, false, List, length, take, codes}
+use Rattle.std.specs.Prelude.{Option, Some, None}
 use Rattle.std.specs.Fmt.{decimal}
 use Rattle.tree_spec.specs.Limits.{limit_number}
 use Rattle.tree_spec.specs.declared.LimitName.TheVariants.{Session}

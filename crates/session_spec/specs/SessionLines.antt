@@ -9,8 +9,8 @@
 --     order_of line behind            how a line without its end is read, with what comes behind it
 --     read_line input                 how the first line of an input is read
 use Rattle.std.specs.Str.{is_utf8}
-use Rattle.std.specs.Prelude.{◌&&◌, ◌==◌, ◌+◌, ◌-◌, ◌*◌, ◌∷◌, [], not, nat_lt, ℕ, Bool, List, take, drop, bytes_eq, codes}
-use Rattle.std.specs.Prelude.{Option, Some, None, option_map, if◌then◌else◌}
+use Rattle.std.specs.Prelude.{◌&&◌, ◌==◌, ◌+◌, ◌-◌, ◌*◌, ◌∷◌, [], not, nat_lt, ℕ, Bool, List, take, drop, bytes_eq}
+use Rattle.std.specs.Prelude.{codes, Option, Some, None, option_map, if◌then◌else◌}
 use Rattle.tree_spec.specs.declared.LimitName.TheVariants.{File}
 use Rattle.tree_spec.specs.Limits.{limit_number}
 use Rattle.url_spec.specs.PathTests.{is_path}

@@ -10,8 +10,8 @@ use Rattle.tree_spec.specs.Counts.{Rose}
 use Rattle.tree_spec.specs.States.{FolderState, SourceState, SinkState}
 use Rattle.tree_spec.specs.Trees.{Tree}
 use Rattle.generator_spec.specs.Lines.{memory_line}
-use Rattle.generator_spec.specs.Statuses.{LeavesTree, done_status, memory_status, read_fault_status}
-use Rattle.generator_spec.specs.Statuses.{write_fault_status}
+use Rattle.generator_spec.specs.Statuses.{LeavesTree, done_status, memory_status, not_reached_status}
+use Rattle.generator_spec.specs.Statuses.{read_fault_status, write_fault_status}
 use Rattle.session_spec.specs.SessionRuns.{SessionComesTo}
 
 pub record AreQuiet (before after : FolderState) (source later : SourceState) (out out_after : SinkState) : Type 0 where
@@ -46,6 +46,7 @@ pub record ShowsFaults (before after : FolderState) (source later : SourceState)
 pub record SessionPromises (before after : FolderState) (source later : SourceState) (out out_after : SinkState)
     (result : ℕ) : Type 0 where
   pub statuses : (result ≡ done_status) ⊎ (result ≡ write_fault_status) ⊎ LeavesTree result
+  pub other : result ≢ not_reached_status
   pub kept : (after.holds ≡ before.holds) × (after.write_faults ≡ before.write_faults)
   pub read :
       result ≡ read_fault_status → Rose before.look_faults after.look_faults ⊎ Rose source.faults later.faults

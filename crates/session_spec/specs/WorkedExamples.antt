@@ -10,7 +10,8 @@
 --     AnswerExamples                  what is replied to whole inputs
 use Rattle.std.specs.FinMap.{get}
 use Rattle.std.specs.List.{list_any}
-use Rattle.std.specs.Prelude.{◌≡◌, ◌++◌, ◌∷◌, [], ⊤, ℕ, true, false, List, length, bytes_eq, codes, Option, Some, None, Ok, Err}
+use Rattle.std.specs.Prelude.{◌≡◌, ◌++◌, ◌∷◌, [], ⊤, ℕ, true, false, List, length, bytes_eq, codes}
+use Rattle.std.specs.Prelude.{Option, Some, None, Ok, Err}
 use Prim.Native.String.{String}
 use Rattle.tree_spec.specs.LookAskings.{Sights}
 use Rattle.tree_spec.specs.Trees.{Tree}

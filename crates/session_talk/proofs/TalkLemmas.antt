@@ -17,10 +17,11 @@ use Rattle.session_spec.specs.SessionLines as lines
 use Rattle.session_spec.specs.SessionLines.{Rest, reads, unfinished, read_line}
 use Rattle.session_spec.specs.SessionLooks.{IsTriedLook}
 use Rattle.session_spec.specs.SessionStates.{SessionState}
-use Rattle.session_spec.specs.SessionSteps.{MakesEdits, SpendsFor}
+use Rattle.session_spec.specs.SessionSteps.{MakesEdits, SpendsFor, most_steps}
 use Rattle.session_spec.specs.SessionSteps as spending
 use Rattle.session_spec.specs.TakenInput.{IsFront, Takes, IsNeeded}
 use Rattle.session_spec.specs.Talks.{Standing, begun, behind, turn_of, Talks, still, edits, collects, shows_it}
+use Rattle.session_spec.proofs.SessionSpending.{few_by_none}
 use Rattle.session_spec.proofs.Talking.{with_more, talks_on, talks_then, allowed_front}
 use Rattle.session_input.specs.Readers.{Waiting}
 use Rattle.session_input.proofs.ReaderLemmas.{takes_none}
@@ -266,7 +267,7 @@ goes_begun editor waiting source out unread number room = record {
   looks = none_looked editor.told editor.asked;
   edits = 0;
   made = subst (λ (bytes : List ℕ). MakesEdits [] 0 None bytes) (sym unread) spending.begun;
-  steps = omega arith;
+  steps = few_by_none editor.spent editor.spent most_steps (omega arith);
   untold = λ e. e;
   quiet_editor = refl;
   quiet_source = refl;

@@ -7,7 +7,8 @@
 --         modules, serves
 --     NothingDiffers      checked over the same tree, its text has no difference
 --     GeneratedReadsBack      what is generated is read as exactly the layout, with the digests of the trace's modules
---     WrittenMapsDifferNowhere      checked over the tree of which it was generated, a map that is written has no difference
+--     WrittenMapsDifferNowhere      checked over the tree of which it was generated, a map that is written has no
+--                           difference
 --     NoMapServesAClash      of two requests that clash no map serves both
 --     CheckedMapsServe      any text that is read as a map of which no need of the trace differs serves
 --     Soundness      what is generated serves
@@ -84,7 +85,8 @@ NothingDiffers =
     (tree : Tree) (config : Config) (all : Gathered) (layout parsed : ParsedMap) (base : List ℕ)
     → traced (get tree) config ≡ Ok all → IsFewestLayout all.needs layout
     → web_name config the_page ≡ Some base
-    → ParsesMap base (map_text (map_base config) (with_digests config all layout)) (Ok parsed) → differences parsed all.needs ≡ []
+    → ParsesMap base (map_text (map_base config) (with_digests config all layout)) (Ok parsed)
+    → differences parsed all.needs ≡ []
 
 -- own law: what is generated is read, against the page's URL, as exactly the layout of the trace's needs with the
 -- digests of its modules

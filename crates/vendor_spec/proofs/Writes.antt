@@ -42,11 +42,11 @@ same_rest to one other e = sym (drop-append_seam to one) ∙ (ap (drop (length t
 
 -- ---- the goals
 
-goals_behind : (to : List ℕ) (file pair : Pair) (more rest : List Pair) → (file ∷ more) ≡ goals to (pair ∷ rest)
+pub goals_behind : (to : List ℕ) (file pair : Pair) (more rest : List Pair) → (file ∷ more) ≡ goals to (pair ∷ rest)
     → more ≡ goals to rest
 goals_behind to file pair more rest e = cc
 
-placed_at : (to : List ℕ) (tree middle : Tree) (file pair : Pair) (more rest : List Pair)
+pub placed_at : (to : List ℕ) (tree middle : Tree) (file pair : Pair) (more rest : List Pair)
     → (file ∷ more) ≡ goals to (pair ∷ rest) → Places tree file.0 (Stored file.1) middle
     → Places tree (to ++ pair.0) (Stored pair.1) middle
 placed_at to tree middle file pair more rest e placed =

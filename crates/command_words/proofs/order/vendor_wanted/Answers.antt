@@ -15,5 +15,5 @@ returns-in-Ok c =
 
 pub returns-in-Err-BadPath : goal.returns-in-Err-BadPath
 returns-in-Err-BadPath c =
-    folder_refused c.args.text.now c.bad_path.result
-    (λ is. c.in-Err-BadPath.ensures.bad.0 (ap Err c.in-Err-BadPath.field-0-is) is.is_path) c.bad_path.ensures
+    folder_refused c.args.text.now c.bad_path-in-Err-BadPath.result
+    (λ is. c.in-Err-BadPath.ensures.bad.0 (ap Err c.in-Err-BadPath.field-0-is) is.is_path) c.bad_path-in-Err-BadPath.ensures

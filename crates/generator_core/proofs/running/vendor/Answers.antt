@@ -2,7 +2,7 @@ use Rattle.std.proofs.Common.{rules, subst}
 use Rattle.config_spec.specs.declared.Command.TheVariants.{Refresh, Vendor}
 use Rattle.generator_spec.specs.Asked.{AsksInOrder}
 use Rattle.generator_spec.specs.Commands.{SaysCounts}
-use Rattle.session_spec.specs.SessionRuns.{refresh_words}
+use Rattle.session_spec.specs.Openings.{refresh_words}
 use Rattle.generator_core.specs.Configuring.{FindsConfig}
 use Rattle.generator_core.proofs.Endings.{config_stop_end, ends_from, stop_spends}
 use Rattle.generator_core.proofs.CopiesTold.{copies_ask, vendors_no_project, vendors_project, vendor_command}
