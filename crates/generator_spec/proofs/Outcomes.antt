@@ -91,7 +91,8 @@ writes_count tree config map command files writes.unlinked = tt
 writes_count tree config map command files writes.refreshed = tt
 writes_count tree config map command files (writes.in_page page new is i) = tt
 
-counts_generate : (command : Command) → SaysCounts command → IsGenerating command
+-- a command that says counts generates
+pub counts_generate : (command : Command) → SaysCounts command → IsGenerating command
 counts_generate Link counts = tt
 counts_generate Unlink counts = tt
 counts_generate Refresh counts = tt

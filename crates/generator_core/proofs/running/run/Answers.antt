@@ -11,7 +11,8 @@ use Rattle.generator_spec.specs.Commands.{IsGenerating, SaysCounts}
 use Rattle.generator_spec.specs.Steps.{MeasureSpends}
 use Rattle.generator_core.proofs.Endings.{words_end}
 use Rattle.generator_core.proofs.Explainings.{why_command}
-use Rattle.generator_core.proofs.CopiesTold.{counts_generate, vendor_command}
+use Rattle.generator_spec.proofs.Outcomes.{counts_generate}
+use Rattle.generator_core.proofs.CopiesTold.{vendor_command}
 use Rattle.generator_core.proofs.HeldSessions.{unread_ends}
 use Rattle.generator_core.proofs.Measurings.{few_packages}
 use Rattle.generator_core.proofs.Runs.{command_is, words_not_done, asks_nothing_in_order}
