@@ -89,6 +89,9 @@ strict_few (m ∷ modules) (answer ∷ answers) =
       | inr one ↦ omega (arith, both, more, one)
     ]
 
+pub reports_memory : (map : ParsedMap) (all : Gathered) (command : Command) → Reports command map all (Err Memory)
+reports_memory map all command = record { reported = tt; stopped = report_stop.memory command }
+
 pub reports_plainly : (map : ParsedMap) (all : Gathered) (lines : List (List ℕ)) (result : Result Report Stop) → lines ≡ difference_lines map all → IsTold (length all.needs) lines result
     → (command : Command) → AsksGrammar command false → Reports command map all result
 reports_plainly map all lines (Ok report) same told _ asks.plainly = record {

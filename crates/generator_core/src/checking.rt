@@ -233,7 +233,10 @@ fn joined(alloc: Global, lines: &Listed<Bytes>) -> Result<Vec<u8>, Memory>
     ensures { IfOk result (λ text. text.items ≡ concat lines.now) }
 {
     let mut text = Vec::new(alloc);
-    for line in lines.as_slice() {
+    for number in 0..lines.len() {
+        let Some(line) = lines.at(number) else {
+            unreachable!();
+        };
         text.extend_from_slice(line.as_slice())?;
     }
     Ok(text)
