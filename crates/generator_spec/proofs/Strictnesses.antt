@@ -180,9 +180,9 @@ nothing_said (line ∷ more) zero = absurd (omega (arith, zero))
 pub checks_are_exact : ChecksAreExact
 checks_are_exact tree config command held all strict e says_so = (
   (λ zero.
-  let before = done_before all (differences held all.needs) strict zero in
-  (before.0, agree_without_lines tree config all e command strict says_so (nothing_said strict before.1))),
+      let before = done_before all (differences held all.needs) strict zero in
+      (before.0, agree_without_lines tree config all e command strict says_so (nothing_said strict before.1))),
   (λ both.
-  let none = no_lines_where_agree tree config all e command strict says_so both.1 in
-  (λ i. check_status (map (difference_line all) (both.0 i) ++ none i))),
+      let none = no_lines_where_agree tree config all e command strict says_so both.1 in
+      (λ i. check_status (map (difference_line all) (both.0 i) ++ none i))),
 )
