@@ -20,7 +20,8 @@ use Rattle.url_spec.specs.PathTests.{is_path}
 use Rattle.node_spec.specs.Conditions.{AreConditions, names_in}
 use Rattle.project_spec.specs.ProjectFiles.{IsPagePath}
 use Rattle.words_spec.specs.PlainWords.{Asked, Asks, LinkOptions, no_options, linking, unlinking, refreshing, checking}
-use Rattle.words_spec.specs.PlainWords.{checking_strictly, listing, injecting, editing, explaining, vendoring, measuring}
+use Rattle.words_spec.specs.PlainWords.{checking_strictly, listing, injecting, editing, explaining, vendoring}
+use Rattle.words_spec.specs.PlainWords.{measuring}
 use Rattle.config_spec.specs.declared.Command.{Command}
 use Rattle.config_spec.specs.declared.Command.TheVariants.{Link, Unlink, Refresh, Inject, Check, CheckStrictly, Why}
 use Rattle.config_spec.specs.declared.Command.TheVariants.{Vendor}

@@ -4,7 +4,8 @@
 --     IsLineOf all place answer old new      the line of that module stands behind those that were there, if it has one
 --     IsStrictStop all stop            some module is nested too deep, or memory is wanting
 --     FindsAnswer all place result     the module's answer is found, or it is told why not
---     PushesStrict all old new result  the lines of the modules stand behind those that were there, or it is told why not
+--     AreLined all old new             the lines of the modules stand behind those that were there
+--     PushesStrict all old new result  so they do, or it is told why not
 use Rattle.std.specs.Prelude.{◌≡◌, ◌++◌, ℕ, Bool, true, false, List, slice_get, Some, Result, IfOk, IfErr, OnOk}
 use Rattle.tree_spec.specs.declared.LimitName.TheVariants.{Modules}
 use Rattle.tree_spec.specs.Limits.{limit_number}

@@ -224,8 +224,8 @@ fn inject<F: Folder, O: Sink, L: Ledger>(
     }
 }
 
-// `check`: reads the map, traces, and says what the map doesn't serve; and, strictly, which modules don't agree with the
-// statement grammar.
+// `check`: reads the map, traces, and says what the map doesn't serve; and, strictly, which modules don't agree with
+// the statement grammar.
 fn check<F: Folder, O: Sink, L: Ledger>(
     alloc: Global,
     folder: &mut F,

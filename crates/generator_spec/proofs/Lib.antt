@@ -10,6 +10,7 @@ pub mod Strictnesses
 pub mod Refusals
 pub mod Vendorings
 pub mod Outcomes
+pub mod SomeOutcomes
 pub mod Endings
 pub mod ToldLines
 pub mod Meetings

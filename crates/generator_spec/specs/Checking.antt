@@ -17,7 +17,8 @@ use Rattle.trace_spec.specs.Checks.{Gathered, Spelling, no_spelling}
 use Rattle.trace_spec.specs.Modules.{Module}
 use Rattle.config_spec.specs.declared.Command.{Command}
 use Rattle.config_spec.specs.declared.Command.TheVariants.{Check, CheckStrictly}
-use Rattle.generator_spec.specs.Lines.{differs_line, strict_syntax_line, strict_requests_line, served_line, differences_line}
+use Rattle.generator_spec.specs.Lines.{differs_line, strict_syntax_line, strict_requests_line, served_line}
+use Rattle.generator_spec.specs.Lines.{differences_line}
 use Rattle.generator_spec.specs.Statuses.{done_status, differences_status}
 use Rattle.generator_spec.specs.Strictness.{AreSaid, IsNested}
 

@@ -157,7 +157,9 @@ pub data IsChecking : Command → Type 0 where
 pub data Opens (tree : Tree) (config : Config) : Command → Type 0 where
   nothing : (command : Command) → IsMapping command → Opens tree config command
   page : (page : List ℕ) → IsPage tree config page → TakesMaps page → Opens tree config Inject
-  has_map : (command : Command) → IsChecking command → (map : ParsedMap) → HoldsMap tree config map → Opens tree config command
+  has_map :
+      (command : Command) → IsChecking command → (map : ParsedMap) → HoldsMap tree config map
+      → Opens tree config command
   no_base :
       (command : Command) → IsChecking command → (text : List ℕ) → IsMapText tree text
       → web_name config the_page ≡ None → Opens tree config command

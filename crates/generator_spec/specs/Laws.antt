@@ -56,8 +56,8 @@ NothingRefused =
 
 -- ---- checks
 
--- a check of a trace is done exactly where the map serves each need, and where the modules are checked too, each of them
--- agrees
+-- a check of a trace is done exactly where the map serves each need, and each module agrees, where the modules are
+-- checked too
 abbrev pub ChecksAreExact : Type 0
 ChecksAreExact =
     (tree : Tree) (config : Config) (command : Command) (held : ParsedMap) (all : Gathered) (strict : List (List ℕ))

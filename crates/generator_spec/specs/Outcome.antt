@@ -49,8 +49,8 @@ pub data RefusesRun (words : List (List ℕ)) (tree : Tree) : Refusal → Type 0
 -- own: a refusal writes nothing. Where nothing is refused, the command's files are written, with the map that is
 -- generated; or it is said which of the trace's needs the map that is there doesn't serve, and behind that, where it is
 -- asked to check strictly, which modules don't agree with the statement grammar; or which modules it has, or by which
--- requests the page comes to load a file, if it does. Where copies are asked for, the files of the generation's footprint
--- are written below the folder, in byte order, and it is said how many.
+-- requests the page comes to load a file, if it does. Where copies are asked for, the files of the generation's
+-- footprint are written below the folder, in byte order, and it is said how many.
 -- A measure says how much is generated for its own tree, whatever the folder holds. Words without a meaning are answered
 -- with some text
 pub data ComesTo (words : List (List ℕ)) (tree : Tree) (status : ℕ) (lines : List (List ℕ))
