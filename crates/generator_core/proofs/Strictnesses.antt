@@ -1,19 +1,29 @@
 -- How a check comes to the lines of the modules, step by step.
-use Rattle.std.proofs.Common.{◌≡◌, ◌≤◌, ◌+◌, ◌||◌, ◌++◌, ℕ, zero, suc, Bool, true, false, List, [], ◌∷◌, length, take, Some, Result, Ok, Err, refl, sym, ap, ◌∙◌, subst, append_assoc, true≢false, arith}
+use Rattle.std.proofs.Common.{◌≡◌, ◌≢◌, ◌≤◌, ◌+◌, ◌||◌, ◌++◌, ℕ, zero, suc, Bool, true, false, List, [], ◌∷◌, length, take, Some, Result, Ok, Err, refl, sym, ap, ◌∙◌, subst, append_assoc, true≢false, arith}
 use Rattle.std.specs.List.{list_any}
 use Rattle.std.specs.Prelude.{slice_get}
 use Rattle.std.proofs.Math.Seq.{take-length}
 use Rattle.std.proofs.lemmas.List.{append-nil, length-take-le}
 use Rattle.std.proofs.lemmas.List.Folds.{list_any-append}
 use Rattle.grammar_spec.specs.declared.answer.Strict.{Strict}
-use Rattle.grammar_spec.specs.declared.answer.Strict.TheVariants.{TooDeep}
+use Rattle.module_spec.proofs.OutlineLaws.{one_outline}
+use Rattle.module_spec.specs.declared.request.ModuleFault.TheVariants as module_fault
+use Rattle.module_spec.specs.Outlines.{Outline, ReadsOutline}
+use Rattle.es_module_parser.specs.declared.fault.OutlineFault.{OutlineFault}
+use Rattle.es_module_parser.specs.declared.fault.OutlineFault.TheVariants as fault
+use Rattle.es_module_parser.specs.Faults.{IsFaultOf}
+use Rattle.es_grammar.specs.Saying.{SaysOf}
+use Rattle.module_sources.specs.Shown.{IsRead}
+use Rattle.grammar_spec.specs.declared.answer.Strict.TheVariants.{Agrees, Syntax, Differs, TooDeep}
 use Rattle.trace_spec.specs.Checks.{Gathered}
 use Rattle.trace_spec.specs.Modules.{Module}
 use Rattle.trace_spec.specs.Questions.{Source}
 use Rattle.generator_spec.proofs.Strictnesses.{one_said}
 use Rattle.generator_spec.specs.Checking.{strict_line, strict_lines}
 use Rattle.generator_spec.specs.Strictness.{IsSaid, AreSaid, AreSaid as said, is_nested, IsNested}
-use Rattle.generator_core.specs.Strictness.{IsSaidAt, IsLineOf, AreLined}
+use Rattle.generator_spec.specs.declared.Refusal.TheVariants.{NestedTooDeep}
+use Rattle.generation.specs.declared.stop.Stop.TheVariants.{Refused, Memory}
+use Rattle.generator_core.specs.Strictness.{FindsAnswer, IsSaidAt, IsLineOf, IsStrictStop as strict_stop, AreLined}
 
 -- ---- a module that is nested too deep
 
@@ -104,3 +114,36 @@ all_lined all place old new same at up =
       none = λ deep. true≢false (sym deep ∙ up.shallow);
       lines = up.lines ∙ ap (λ ms. old ++ strict_lines ms up.answers) modules;
     }
+
+-- ---- what is said of one module
+
+-- the code's answer says what the definition does
+pub said_so : (text : List ℕ) (outline : Outline) (answer : Strict) → ReadsOutline text (Ok outline) → SaysOf text outline answer → IsSaid text answer
+said_so text outline answer reads says = record { outline = outline; is_outline = reads; verdict = says.verdict; reads = says.reads; is = says.is }
+
+-- a text that has an outline has no fault
+pub no_outline_fault : (text : List ℕ) (why : OutlineFault) → IsRead text → IsFaultOf text why → why ≢ fault.Memory → ⊥
+no_outline_fault text (fault.Unreadable at) read is other =
+    let same = one_outline text (Ok read.outline) (Err (module_fault.Unreadable at)) read.reads is in absurd (cc)
+no_outline_fault text fault.TooDeep read is other =
+    let same = one_outline text (Ok read.outline) (Err module_fault.TooDeep) read.reads is in absurd (cc)
+no_outline_fault text fault.TooManyRequests read is other =
+    let same = one_outline text (Ok read.outline) (Err module_fault.TooManyRequests) read.reads is in absurd (cc)
+no_outline_fault text fault.Memory read is other = other refl
+
+pub not_nested : (answer : Strict) → answer ≢ TooDeep → is_nested answer ≡ false
+not_nested Agrees other = refl
+not_nested (Syntax at) other = refl
+not_nested (Differs found outline) other = refl
+not_nested TooDeep other = absurd (other refl)
+
+pub memory_found : (all : Gathered) (place : ℕ) → FindsAnswer all place (Err Memory)
+memory_found all place = record { said = tt; shallow = tt; stopped = strict_stop.memory }
+
+pub deep_found : (all : Gathered) (place : ℕ) → suc place ≤ length all.sources → IsSaidAt all place TooDeep → FindsAnswer all place (Err (Refused NestedTooDeep))
+deep_found all place below is =
+    let source = some_at all.sources place below in
+    record { said = tt; shallow = tt; stopped = strict_stop.nested place source.0 source.1 (is source.0 source.1) }
+
+pub answer_found : (all : Gathered) (place : ℕ) (answer : Strict) → IsSaidAt all place answer → answer ≢ TooDeep → FindsAnswer all place (Ok answer)
+answer_found all place answer is other = record { said = is; shallow = not_nested answer other; stopped = tt }
