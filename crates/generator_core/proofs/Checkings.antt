@@ -58,7 +58,7 @@ use Rattle.generator_core.proofs.Endings.{ends_as, serves_where_done}
 -- ---- the look at the map's file
 
 pub asks_checking : (command : Command) (strictly : Bool) → AsksGrammar command strictly → IsChecking command
-asks_checking command strictly asks.plainly = checking.check
+asks_checking command strictly asks.plainly = checking.plainly
 asks_checking command strictly asks.strictly = checking.strictly
 
 module _ (command : Command) (checks : IsChecking command) (config : Config) (before after : FolderState) where
@@ -299,8 +299,8 @@ few_differ map all = subst (λ n. n ≤ length all.needs) (sym (length-map (diff
 
 is_strict_line : (name : List ℕ) (answer : Strict) → All IsStrictLine (strict_line name answer)
 is_strict_line name Agrees = All-nil IsStrictLine
-is_strict_line name (Syntax at) = All-cons IsStrictLine _ [] (lined.syntax name at refl) (All-nil IsStrictLine)
-is_strict_line name (Differs found outline) = All-cons IsStrictLine _ [] (lined.requests name refl) (All-nil IsStrictLine)
+is_strict_line name (Syntax at) = All-cons IsStrictLine _ [] (lined.by_syntax name at refl) (All-nil IsStrictLine)
+is_strict_line name (Differs found outline) = All-cons IsStrictLine _ [] (lined.by_requests name refl) (All-nil IsStrictLine)
 is_strict_line name TooDeep = All-nil IsStrictLine
 
 are_strict_lines : (modules : List Module) (answers : List Strict) → All IsStrictLine (strict_lines modules answers)

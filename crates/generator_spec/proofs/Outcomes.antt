@@ -99,7 +99,7 @@ pub checked_or_other :
     (words : List (List ℕ)) (tree : Tree) (command other : Command) (config second : Config) → IsChecking command
     → IsConfigOf words tree command config → IsConfigOf words tree other second → Check ≢ other
     → CheckStrictly ≢ other → ⊥
-checked_or_other words tree command other config second checking.check is is_too plainly strictly =
+checked_or_other words tree command other config second checking.plainly is is_too plainly strictly =
     plainly (one_config words tree command other config second is is_too).one_command
 checked_or_other words tree command other config second checking.strictly is is_too plainly strictly =
     strictly (one_config words tree command other config second is is_too).one_command

@@ -173,9 +173,9 @@ module _ (tree : Tree) (config : Config) where
       absurd (cc)
 
   map_refused_or_opened : (command : Command) (fault : MapFileFault) → IsChecking command → RefusesMapFile tree config fault → Opens tree config command → ⊥
-  map_refused_or_opened command fault checking.check refused (opens.nothing _ is) = elim is [ ]
-  map_refused_or_opened command fault checking.check refused (opens.has_map _ checks map holds) = no_map_text fault holds.text map refused holds.stands holds.reads
-  map_refused_or_opened command fault checking.check refused (opens.no_base _ checks text is nameless) = no_base_text fault text refused is nameless
+  map_refused_or_opened command fault checking.plainly refused (opens.nothing _ is) = elim is [ ]
+  map_refused_or_opened command fault checking.plainly refused (opens.has_map _ checks map holds) = no_map_text fault holds.text map refused holds.stands holds.reads
+  map_refused_or_opened command fault checking.plainly refused (opens.no_base _ checks text is nameless) = no_base_text fault text refused is nameless
   map_refused_or_opened command fault checking.strictly refused (opens.nothing _ is) = elim is [ ]
   map_refused_or_opened command fault checking.strictly refused (opens.has_map _ checks map holds) = no_map_text fault holds.text map refused holds.stands holds.reads
   map_refused_or_opened command fault checking.strictly refused (opens.no_base _ checks text is nameless) = no_base_text fault text refused is nameless
@@ -252,7 +252,7 @@ module _ (tree : Tree) (config : Config) where
   refused_or_opened_and_generated command why map generated_so (refuses.trace same fault before e) opened generates = (nothing_refused tree config map generates).0 fault e
   refused_or_opened_and_generated command why map generated_so (refuses.many_choices same generating before wide) opened generates = (nothing_refused tree config map generates).1 wide
   refused_or_opened_and_generated command why map generated_so (refuses.large_map same generating before large) opened generates = (nothing_refused tree config map generates).2 large
-  refused_or_opened_and_generated command why map generated_so (refuses.nested found all answers holds traces are deep) opened generates = generated_so
+  refused_or_opened_and_generated command why map generated_so (refuses.nested held all answers holds traces are deep) opened generates = generated_so
 
   pub refused_or_checked : (command : Command) (why : Refusal) (map : ParsedMap) (all : Gathered) (strict : List (List ℕ)) → SaysOfModules all command strict → Refuses tree config command why → HoldsMap tree config map → traced (get tree) config ≡ Ok all → ⊥
   refused_or_checked command why map all strict says.unasked (refuses.map_file same fault checks is) holds traces = no_map_text fault holds.text map is holds.stands holds.reads
@@ -269,6 +269,7 @@ module _ (tree : Tree) (config : Config) where
       none (subst IsNested answers_same deep)
 
   pub refused_or_listed : (why : Refusal) (all : Gathered) → Refuses tree config Lists why → traced (get tree) config ≡ Ok all → ⊥
+  refused_or_listed why all (refuses.map_file _ fault checks is) traces = elim checks [ ]
   refused_or_listed why all (refuses.trace same fault before e) traces =
       let both : Ok all ≡ Err fault = sym traces ∙ e in
       absurd (cc)
@@ -276,6 +277,7 @@ module _ (tree : Tree) (config : Config) where
   refused_or_listed why all (refuses.large_map same generating before large) traces = generating
 
   pub refused_or_explained : (why : Refusal) (all : Gathered) → Refuses tree config Why why → traced (get tree) config ≡ Ok all → ⊥
+  refused_or_explained why all (refuses.map_file _ fault checks is) traces = elim checks [ ]
   refused_or_explained why all (refuses.trace same fault before e) traces =
       let both : Ok all ≡ Err fault = sym traces ∙ e in
       absurd (cc)
@@ -343,7 +345,7 @@ module _ (tree : Tree) (config : Config) where
   opened_or_refused Unlink = inl (opens.nothing Unlink mapping.unlink)
   opened_or_refused Refresh = inl (opens.nothing Refresh mapping.refresh)
   opened_or_refused Inject = by_entry found refl
-  opened_or_refused Check = by_map_entry Check checking.check map_found refl
+  opened_or_refused Check = by_map_entry Check checking.plainly map_found refl
   opened_or_refused CheckStrictly = by_map_entry CheckStrictly checking.strictly map_found refl
   opened_or_refused Lists = inl opens.no_file
   opened_or_refused Why = inl opens.no_other_file

@@ -152,7 +152,7 @@ module _ (words : List (List ℕ)) (tree : Tree) (is_tree : IsTree tree) (unbloc
       ]
 
   by_check : (command : Command) → IsChecking command → (config : Config) → IsConfigOf words tree command config → (map : ParsedMap) → HoldsMap tree config map → (all : Gathered) → traced (get tree) config ≡ Ok all → HasOutcome words tree
-  by_check command checking.check config is map holds all e = by_saying command config is map holds all e [] says.unasked
+  by_check command checking.plainly config is map holds all e = by_saying command config is map holds all e [] says.unasked
   by_check command checking.strictly config is map holds all e =
       let found = some_answers (get tree) config all e in by_answers config is map holds all e found.0 found.1
 

@@ -36,11 +36,11 @@ use Rattle.generator_spec.proofs.Generations.{same_trace}
 -- ---- commands
 
 pub checking_or_generating : (command : Command) → IsChecking command → IsGenerating command → ⊥
-checking_or_generating command checking.check generating = generating
+checking_or_generating command checking.plainly generating = generating
 checking_or_generating command checking.strictly generating = generating
 
 pub says_checking : (all : Gathered) (command : Command) (strict : List (List ℕ)) → SaysOfModules all command strict → IsChecking command
-says_checking all command strict says.unasked = checking.check
+says_checking all command strict says.unasked = checking.plainly
 says_checking all command strict (says.strictly answers are none) = checking.strictly
 
 -- ---- one at most
@@ -66,6 +66,8 @@ one_said text some other is too =
 
 pub one_answers : (sources : List Source) (some other : List Strict) → AreSaid sources some → AreSaid sources other → some ≡ other
 one_answers [] some other said.none said.none = refl
+one_answers (first ∷ sources) [] other are more = elim are [ ]
+one_answers (first ∷ sources) (some ∷ rest) [] are more = elim more [ ]
 one_answers (first ∷ sources) (some ∷ rest) (other ∷ others) (said.one_more is are) (said.one_more too more) =
     let firsts = one_said first.bytes some other is too in
     let rests = one_answers sources rest others are more in
@@ -140,6 +142,9 @@ all_agree :
     → map Some sources ≡ map (source sights) modules → AreSaid sources answers → strict_lines modules answers ≡ []
     → (IsNested answers → ⊥) → All Agreeing sources
 all_agree sights modules [] [] same said.none none shallow = All-nil Agreeing
+all_agree sights modules [] (answer ∷ answers) same are none shallow = elim are [ ]
+all_agree sights [] (own ∷ sources) [] same are none shallow = elim are [ ]
+all_agree sights (m ∷ modules) (own ∷ sources) [] same are none shallow = elim are [ ]
 all_agree sights [] (own ∷ sources) (answer ∷ answers) same (said.one_more is are) none shallow = absurd (cc)
 all_agree sights (m ∷ modules) (own ∷ sources) (Agrees ∷ answers) same (said.one_more is are) none shallow =
     All-cons Agreeing own sources is
@@ -152,6 +157,8 @@ all_agree sights (m ∷ modules) (own ∷ sources) (TooDeep ∷ answers) same (s
 no_strict_lines : (modules : List Module) (sources : List Source) (answers : List Strict) → AreSaid sources answers → All Agreeing sources → strict_lines modules answers ≡ []
 no_strict_lines [] sources answers are agree = refl
 no_strict_lines (m ∷ modules) [] [] said.none agree = refl
+no_strict_lines (m ∷ modules) [] (answer ∷ answers) are agree = elim are [ ]
+no_strict_lines (m ∷ modules) (own ∷ sources) [] are agree = elim are [ ]
 no_strict_lines (m ∷ modules) (own ∷ sources) (answer ∷ answers) (said.one_more is are) agree =
     let first : answer ≡ Agrees = one_said own.bytes answer Agrees is (All-head Agreeing own sources agree) in
     ap (λ a. strict_line (m.path ++ m.suffix) a ++ strict_lines modules answers) first

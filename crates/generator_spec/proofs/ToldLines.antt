@@ -169,8 +169,8 @@ difference_first : (line : List ℕ) → IsDifference line → first_byte line �
 difference_first line is = ap first_byte is.says
 
 strict_first : (line : List ℕ) → IsStrictLine line → first_byte line ≡ 115
-strict_first line (stricts.syntax name at is) = ap first_byte is
-strict_first line (stricts.requests name is) = ap first_byte is
+strict_first line (stricts.by_syntax name at is) = ap first_byte is
+strict_first line (stricts.by_requests name is) = ap first_byte is
 
 -- a text that begins with another byte is another
 other_first : (line : List ℕ) (more : List (List ℕ)) (byte : ℕ) → first_byte line ≡ suc byte → suc byte ≢ 111 → suc byte ≢ 118 → IsAnother (concat (line ∷ more))

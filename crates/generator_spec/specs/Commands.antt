@@ -149,7 +149,7 @@ pub data IsMapping : Command → Type 0 where
 
 -- the command checks the map's file
 pub data IsChecking : Command → Type 0 where
-  check : IsChecking Check
+  plainly : IsChecking Check
   strictly : IsChecking CheckStrictly
 
 -- own: `inject` needs a page that takes maps, `check` a map, and the others nothing; a page without a URL gives `check`

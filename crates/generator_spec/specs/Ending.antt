@@ -181,8 +181,8 @@ pub record IsDifference (line : List ℕ) : Type 0 where
 
 -- own: some module doesn't agree with the statement grammar
 pub data IsStrictLine (line : List ℕ) : Type 0 where
-  syntax : (name : List ℕ) (at : ℕ) → line ≡ strict_syntax_line name at → IsStrictLine line
-  requests : (name : List ℕ) → line ≡ strict_requests_line name → IsStrictLine line
+  by_syntax : (name : List ℕ) (at : ℕ) → line ≡ strict_syntax_line name at → IsStrictLine line
+  by_requests : (name : List ℕ) → line ≡ strict_requests_line name → IsStrictLine line
 
 -- own: `check` says nothing of modules, and `check --strict` no more than there may be modules
 pub data AreStrictLines : Command → List (List ℕ) → Type 0 where

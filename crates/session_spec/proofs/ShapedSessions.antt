@@ -32,7 +32,7 @@ use Rattle.session_spec.proofs.WholeSessions.{asks_anew}
 -- ---- a refusal
 
 no_check : (command : Command) → IsChecking command → command ≡ Refresh → ⊥
-no_check _ checking.check same = absurd (cc)
+no_check _ checking.plainly same = absurd (cc)
 no_check _ checking.strictly same = absurd (cc)
 
 refuses_by : (tree : Tree) (config : Config) (command : Command) (why : Refusal) → command ≡ Refresh → Refuses tree config command why → IsRefusalOf config Refresh why
