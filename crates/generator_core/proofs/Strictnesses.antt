@@ -1,7 +1,7 @@
 -- How a check comes to the lines of the modules, step by step.
 use Rattle.std.proofs.Common.{◌≡◌, ◌≢◌, ◌≤◌, ◌+◌, ◌||◌, ◌++◌, ℕ, zero, suc, Bool, true, false, List, [], ◌∷◌, length, take, Some, Result, Ok, Err, refl, sym, ap, ◌∙◌, subst, append_assoc, true≢false, arith}
 use Rattle.std.specs.List.{list_any}
-use Rattle.std.specs.Prelude.{slice_get}
+use Rattle.std.specs.Prelude.{slice_get, OnOk}
 use Rattle.std.proofs.Math.Seq.{take-length}
 use Rattle.std.proofs.lemmas.List.{append-nil, length-take-le}
 use Rattle.std.proofs.lemmas.List.Folds.{list_any-append}
@@ -23,7 +23,8 @@ use Rattle.generator_spec.specs.Checking.{strict_line, strict_lines}
 use Rattle.generator_spec.specs.Strictness.{IsSaid, AreSaid, AreSaid as said, is_nested, IsNested}
 use Rattle.generator_spec.specs.declared.Refusal.TheVariants.{NestedTooDeep}
 use Rattle.generation.specs.declared.stop.Stop.TheVariants.{Refused, Memory}
-use Rattle.generator_core.specs.Strictness.{FindsAnswer, IsSaidAt, IsLineOf, IsStrictStop as strict_stop, AreLined}
+use Rattle.generation.specs.declared.stop.Stop.{Stop}
+use Rattle.generator_core.specs.Strictness.{FindsAnswer, IsSaidAt, IsLineOf, IsModuleLined, IsStrictStop as strict_stop, PushesModule, AreLined}
 
 -- ---- a module that is nested too deep
 
@@ -103,6 +104,15 @@ next_answer all place old middle new answer same below up is shallow line =
           ∙ ap (λ text. old ++ text) (sym (ap (λ ms. strict_lines ms (up.answers ++ answer ∷ [])) modules
           ∙ lines_more (take place all.modules) (take place all.sources) up.answers m.0 answer (first ∙ sym second) up.said))));
     }
+
+pub next_module :
+    (all : Gathered) (place : ℕ) (old middle new : List (List ℕ)) (result : Result (Unit {0}) Stop)
+    → length all.modules ≡ length all.sources → suc place ≤ length all.modules → AreLinedUpTo all place old middle
+    → PushesModule all place middle new result → result ≡ Ok tt → AreLinedUpTo all (place + 1) old new
+next_module all place old middle new result same below up pushes is =
+    let pushed : IsModuleLined all place middle new = subst (λ r. OnOk r (IsModuleLined all place middle new)) is pushes.pushed in
+    let next : suc place ≡ place + 1 = omega arith in
+    subst (λ n. AreLinedUpTo all n old new) next (next_answer all place old middle new pushed.answer same below up pushed.said pushed.shallow pushed.line)
 
 pub all_lined : (all : Gathered) (place : ℕ) (old new : List (List ℕ)) → length all.modules ≡ length all.sources → place ≡ length all.modules → AreLinedUpTo all place old new → AreLined all old new
 all_lined all place old new same at up =

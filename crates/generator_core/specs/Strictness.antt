@@ -4,6 +4,8 @@
 --     IsLineOf all place answer old new      the line of that module stands behind those that were there, if it has one
 --     IsStrictStop all stop            some module is nested too deep, or memory is wanting
 --     FindsAnswer all place result     the module's answer is found, or it is told why not
+--     PushesModule all place old new result      the line of the module at a place stands behind those that were there, if
+--                                      it has one, or it is told why not
 --     AreLined all old new             the lines of the modules stand behind those that were there
 --     PushesStrict all old new result  so they do, or it is told why not
 use Rattle.std.specs.Prelude.{◌≡◌, ◌++◌, ℕ, Bool, true, false, List, slice_get, Some, Result, IfOk, IfErr, OnOk}
@@ -41,6 +43,18 @@ pub data IsStrictStop (all : Gathered) : Stop → Type 0 where
 pub record FindsAnswer (all : Gathered) (place : ℕ) (result : Result Strict Stop) : Type 0 where
   pub said : IfOk result (IsSaidAt all place)
   pub shallow : IfOk result (λ answer. is_nested answer ≡ false)
+  pub stopped : IfErr result (IsStrictStop all)
+
+-- its line stands behind those that were there, if it has one
+pub record IsModuleLined (all : Gathered) (place : ℕ) (old new : List (List ℕ)) : Type 0 where
+  pub answer : Strict
+  pub said : IsSaidAt all place answer
+  pub shallow : is_nested answer ≡ false
+  pub line : IsLineOf all place answer old new
+
+pub record PushesModule (all : Gathered) (place : ℕ) (old new : List (List ℕ)) (result : Result (Unit {0}) Stop)
+    : Type 0 where
+  pub pushed : OnOk result (IsModuleLined all place old new)
   pub stopped : IfErr result (IsStrictStop all)
 
 -- each module is said something of, and none is nested too deep

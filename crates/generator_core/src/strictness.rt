@@ -5,7 +5,7 @@ ghost use Rattle.tree_spec.specs.declared.LimitName.TheVariants.{Modules};
 ghost use Rattle.tree_spec.specs.Limits.{limit_number};
 ghost use Rattle.module_sources.specs.Shown.{IsRead};
 ghost use Rattle.generator_spec.specs.Strictness.{IsSaid};
-ghost use Rattle.generator_core.specs.Strictness.{FindsAnswer, IsLineOf, IsSaidAt, PushesStrict};
+ghost use Rattle.generator_core.specs.Strictness.{FindsAnswer, IsLineOf, IsSaidAt, PushesModule, PushesStrict};
 
 use es_grammar::{Strict, strict};
 use es_module_parser::{OutlineFault, outline};
@@ -30,15 +30,34 @@ pub(crate) fn push_strict<L: Ledger>(
     ensures cost { steps.new ≤ steps.old + length trace.now.gathered.modules }
 {
     for place in 0..trace.len() {
-        match answer_at(alloc, trace, place, steps) {
+        match push_module(alloc, lines, trace, place, steps) {
+            Ok(()) => {}
             Err(stop) => return Err(stop),
-            Ok(answer) => match push_answer(alloc, lines, trace, place, &answer) {
-                Err(_) => return Err(Stop::Memory),
-                Ok(()) => {}
-            },
         }
     }
     Ok(())
+}
+
+// Puts the line of the module at a place behind the others, where it doesn't agree.
+fn push_module<L: Ledger>(
+    alloc: Global,
+    lines: &mut Listed<Bytes>,
+    trace: &Trace,
+    place: usize,
+    steps: &mut Steps<L>,
+) -> Result<(), Stop>
+    requires modules { place < length trace.now.gathered.modules }
+    requires sources { place < length trace.now.gathered.sources }
+    ensures pushes { PushesModule trace.now.gathered place lines.old lines.new result }
+    ensures cost { steps.new ≤ steps.old + 1 }
+{
+    match answer_at(alloc, trace, place, steps) {
+        Err(stop) => Err(stop),
+        Ok(answer) => match push_answer(alloc, lines, trace, place, &answer) {
+            Err(_) => Err(Stop::Memory),
+            Ok(()) => Ok(()),
+        },
+    }
 }
 
 // What is said of the module at a place, which isn't nested too deep.
@@ -94,7 +113,7 @@ fn said<L: Ledger>(alloc: Global, text: &str, steps: &mut Steps<L>) -> Result<St
     }
 }
 
-// Puts the line of the module at a place behind the others, where it doesn't agree.
+// Puts the line of a module of which this is said.
 fn push_answer(
     alloc: Global,
     lines: &mut Listed<Bytes>,
