@@ -1,7 +1,6 @@
 ghost use Rattle.std.specs.Prelude.{◌≡◌, ◌++◌, [], IfOk, OnOk, codes};
 ghost use Rattle.json_spec.specs.PrintedString.{quoted};
 ghost use Rattle.tree_spec.specs.Limits.{limit_name, limit_number};
-ghost use Rattle.grammar_spec.specs.Readings.{most_open};
 ghost use Rattle.trace_spec.specs.declared.TraceFault.TheVariants as fault;
 ghost use Rattle.generator_spec.specs.Lines as spec;
 ghost use Rattle.map_check.specs.Shown.{got_of};
@@ -18,6 +17,9 @@ use std::alloc::Global;
 use trace_spec::{AskCause, TraceFault};
 use tree_spec::LimitName;
 use vendor_spec::{MOST_PATH_BYTES, MOST_PATH_SEGMENTS};
+
+/// How many forms of the statement grammar may be open at once in a module.
+const MOST_NESTING: usize = 1000;
 
 /// The line of words that have no meaning, though they can be parsed.
 pub fn not_plain_line() -> &'static [u8]
@@ -228,21 +230,14 @@ pub fn line_of(alloc: Global, refusal: &Refusal) -> Result<Vec<u8>, Memory>
         Refusal::MapFile { fault } => map_file_line(alloc, *fault),
         Refusal::Trace { fault } => trace_line(alloc, fault),
         Refusal::Occupied { path } => text_line(alloc, "refused: Occupied ", path.as_str()),
-        Refusal::PathTooLong => path_line(alloc, "path", MOST_PATH_BYTES),
-        Refusal::TooManySegments => path_line(alloc, "segments", MOST_PATH_SEGMENTS),
-        Refusal::NestedTooDeep => Vec::from_slice(alloc, nested_line()),
+        Refusal::PathTooLong => most_line(alloc, "path", MOST_PATH_BYTES),
+        Refusal::TooManySegments => most_line(alloc, "segments", MOST_PATH_SEGMENTS),
+        Refusal::NestedTooDeep => most_line(alloc, "nesting", MOST_NESTING),
     }
 }
 
-// The line of a module in which more forms would be open than may be.
-fn nested_line() -> &'static [u8]
-    ensures { result.now ≡ spec.above_line (codes "nesting") most_open }
-{
-    b"limit: nesting above 1000\n".as_slice()
-}
-
-// The name of what a path has too much of, and the most that it has.
-fn path_line(alloc: Global, name: &str, most: usize) -> Result<Vec<u8>, Memory>
+// The name of what there is too much of, and the most that there may be.
+fn most_line(alloc: Global, name: &str, most: usize) -> Result<Vec<u8>, Memory>
     ensures { IfOk result (λ line. line.items ≡ spec.above_line name.now most) }
 {
     let line = format!(in alloc; "limit: {name} above {most}\n")?;
