@@ -203,14 +203,14 @@ fn reported_strictly<L: Ledger>(
 fn reported(alloc: Global, trace: &Trace, lines: &Listed<Bytes>) -> Result<Report, Stop>
     ensures { IsTold (length trace.now.gathered.needs) lines.now result }
 {
-    match report(alloc, trace.needs().len(), lines) {
+    match report_with(alloc, trace.needs().len(), lines) {
         Err(_) => Err(Stop::Memory),
         Ok(report) => Ok(report),
     }
 }
 
 // These lines of what differs, and how many; or the number of the needs, where there are none.
-fn report(alloc: Global, needs: usize, lines: &Listed<Bytes>) -> Result<Report, Memory>
+fn report_with(alloc: Global, needs: usize, lines: &Listed<Bytes>) -> Result<Report, Memory>
     ensures { IfOk result (IsReportOf needs lines.now) }
 {
     if lines.is_empty() {
