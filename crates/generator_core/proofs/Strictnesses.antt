@@ -37,6 +37,7 @@ pub nested_somewhere :
     (sources : List Source) (answers : List Strict) (place : ℕ) (source : Source) → AreSaid sources answers
     → slice_get sources place ≡ Some source → IsSaid source.bytes TooDeep → IsNested answers
 nested_somewhere [] answers place source are there deep = absurd (cc)
+nested_somewhere (first ∷ sources) [] place source are there deep = elim are [ ]
 nested_somewhere (first ∷ sources) (answer ∷ answers) zero source (said.one_more is are) there deep =
     let same : first ≡ source = cc in
     let deep_there : answer ≡ TooDeep = one_said source.bytes answer TooDeep (subst (λ (s : Source). IsSaid s.bytes answer) same is) deep in
@@ -53,6 +54,8 @@ take_more (first ∷ xs) (suc i) x there = ap (λ rest. first ∷ rest) (take_mo
 
 said_more : (sources : List Source) (answers : List Strict) (source : Source) (answer : Strict) → AreSaid sources answers → IsSaid source.bytes answer → AreSaid (sources ++ source ∷ []) (answers ++ answer ∷ [])
 said_more [] [] source answer said.none is = said.one_more is said.none
+said_more [] (some ∷ answers) source answer are is = elim are [ ]
+said_more (first ∷ sources) [] source answer are is = elim are [ ]
 said_more (first ∷ sources) (some ∷ answers) source answer (said.one_more here are) is = said.one_more here (said_more sources answers source answer are is)
 
 lines_more :
@@ -60,6 +63,8 @@ lines_more :
     → length modules ≡ length sources → AreSaid sources answers
     → strict_lines (modules ++ m ∷ []) (answers ++ answer ∷ []) ≡ strict_lines modules answers ++ strict_line (m.path ++ m.suffix) answer
 lines_more [] [] [] m answer same said.none = append-nil (strict_line (m.path ++ m.suffix) answer)
+lines_more [] [] (some ∷ answers) m answer same are = elim are [ ]
+lines_more (first ∷ modules) (source ∷ sources) [] m answer same are = elim are [ ]
 lines_more [] (source ∷ sources) answers m answer same are = absurd (omega (arith, same))
 lines_more (first ∷ modules) [] answers m answer same are = absurd (omega (arith, same))
 lines_more (first ∷ modules) (source ∷ sources) (some ∷ answers) m answer same (said.one_more is are) =

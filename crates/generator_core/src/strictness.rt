@@ -4,6 +4,7 @@ ghost use Rattle.std.specs.Prelude.{◌≡◌, ◌≤◌, ◌<◌, ◌+◌, ◌+
 ghost use Rattle.tree_spec.specs.declared.LimitName.TheVariants.{Modules};
 ghost use Rattle.tree_spec.specs.Limits.{limit_number};
 ghost use Rattle.module_sources.specs.Shown.{IsRead};
+ghost use Rattle.trace_walk.specs.Walking.{AllRead};
 ghost use Rattle.generator_spec.specs.Strictness.{IsSaid};
 ghost use Rattle.generator_core.specs.Strictness.{FindsAnswer, IsLineOf, IsSaidAt, PushesModule, PushesStrict};
 
@@ -48,6 +49,7 @@ fn push_module<L: Ledger>(
 ) -> Result<(), Stop>
     requires modules { place < length trace.now.gathered.modules }
     requires sources { place < length trace.now.gathered.sources }
+    requires read { AllRead trace.now.gathered.sources }
     ensures pushes { PushesModule trace.now.gathered place lines.old lines.new result }
     ensures cost { steps.new ≤ steps.old + 1 }
 {
@@ -67,7 +69,8 @@ fn answer_at<L: Ledger>(
     place: usize,
     steps: &mut Steps<L>,
 ) -> Result<Strict, Stop>
-    requires { place < length trace.now.gathered.sources }
+    requires within { place < length trace.now.gathered.sources }
+    requires read { AllRead trace.now.gathered.sources }
     ensures finds { FindsAnswer trace.now.gathered place result }
     ensures cost { steps.new ≤ steps.old + 1 }
 {
@@ -87,7 +90,8 @@ fn said_at<L: Ledger>(
     place: usize,
     steps: &mut Steps<L>,
 ) -> Result<Strict, Memory>
-    requires { place < length trace.now.gathered.sources }
+    requires within { place < length trace.now.gathered.sources }
+    requires read { AllRead trace.now.gathered.sources }
     ensures said { IfOk result (IsSaidAt trace.now.gathered place) }
     ensures cost { steps.new ≤ steps.old + 1 }
 {
@@ -109,7 +113,9 @@ fn said<L: Ledger>(alloc: Global, text: &str, steps: &mut Steps<L>) -> Result<St
     match outline(alloc, text, steps) {
         Ok(outline) => strict(alloc, text, &outline),
         Err(OutlineFault::Memory) => Err(AllocError),
-        Err(_) => unreachable!(),
+        Err(OutlineFault::Unreadable { at: _ }) => unreachable!(),
+        Err(OutlineFault::TooDeep) => unreachable!(),
+        Err(OutlineFault::TooManyRequests) => unreachable!(),
     }
 }
 

@@ -4,7 +4,7 @@ ghost use Rattle.tree_spec.specs.Limits.{limit_number};
 ghost use Rattle.layout_spec.specs.Needs.{NoClash};
 ghost use Rattle.url_spec.specs.WebNames.{web};
 ghost use Rattle.trace_walk.specs.Shown.{before_of};
-ghost use Rattle.trace_walk.specs.Walking.{AllRead, AreBeside, AreOfUrls, IsWhole, module_requests};
+ghost use Rattle.trace_walk.specs.Walking.{AreBeside, AreOfUrls, IsWhole, module_requests};
 ghost use Rattle.module_graph.specs.Graphs.{AreModules};
 ghost use Rattle.trace_graph.specs.Links.{IsLinked, IsLive, module_of, source_of};
 ghost use Rattle.request_trace.specs.Naming.{AllNamedAt};
@@ -194,11 +194,9 @@ impl Trace {
         }
     }
 
-    /// The bytes of the module at a place. Each module has its source, as `len` says, which is a text with an outline.
+    /// The bytes of the module at a place. Each module has its source, as `len` says.
     pub fn bytes(&self, place: usize) -> Option<&[u8]>
-        ensures bytes { option_copied result
-            ≡ option_map (λ source. source.bytes) (slice_get self.now.gathered.sources place) }
-        ensures read { AllRead self.now.gathered.sources }
+        ensures { option_copied result ≡ option_map (λ source. source.bytes) (slice_get self.now.gathered.sources place) }
     {
         match self.module(place) {
             None => None,
