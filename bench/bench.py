@@ -196,8 +196,8 @@ def measure_names(work, modules, slack, tries):
 
 
 def measure_layout(work, referrers, targets, slack, tries):
-    """Measures modules that ask for versions of one package: for two, for many, and at the limit of choices, which is so
-    many places times a fourth of them."""
+    """Measures modules that ask for versions of one package: for two, for many, and at the limit of choices, which is
+    so many places times a fourth of them."""
     def measured(referrers, targets, seconds):
         label = f"{referrers} modules and {targets} versions of what they ask for"
         run = link(trees.versions(os.path.join(work, f"versions-{referrers}-{targets}"), referrers, targets), tries)
@@ -280,40 +280,49 @@ def measure_needs(work, modules, count, slack, tries):
                                         f"{small * 1e6:.2f} us, at most {3 * slack}")
 
 
-def main():
-    smoke = sys.argv[1:] == ["smoke"]
-    if sys.argv[1:] and not smoke:
-        sys.exit("usage: bench/run.sh [smoke]")
+def is_smoke(usage):
+    """Whether small trees alone are asked for, by the one word that a script takes."""
+    if sys.argv[1:] not in ([], ["smoke"]):
+        sys.exit(f"usage: {usage} [smoke]")
+    return bool(sys.argv[1:])
+
+
+def all_measured(name, measurements):
+    """Measures in a folder of its own, which is gone afterwards, and ends with 0 where each target was met."""
     if not os.access(PROGRAM, os.X_OK):
         sys.exit("bench: there is no build/salimgub: run ./build.sh first")
-    work = tempfile.mkdtemp(prefix="salimgub-bench-")
+    work = tempfile.mkdtemp(prefix=f"salimgub-{name}-")
     try:
-        for shape in (trees.chain, trees.fan, trees.deep, trees.shared):
-            if smoke:
-                measure(shape, work, 2000, 10, 2, False)
-            else:
-                measure(shape, work, 20000, 1, 3, shape in (trees.chain, trees.fan))
-        if smoke:
-            measure_packages(work, 200, 10, 2, False)
-            measure_names(work, 2000, 10, 2)
-            measure_layout(work, 1900, 80, 10, 2)
-            measure_refresh(work, 200, 10, 2)
-            measure_check(work, 200, 10, 2)
-            measure_maps(work, MIB, 10, 2)
-            measure_needs(work, 2000, 10000, 10, 2)
-        else:
-            measure_packages(work, 2000, 1, 3, True)
-            measure_names(work, 18000, 1, 2)
-            measure_layout(work, 19000, 800, 1, 3)
-            measure_refresh(work, 2000, 1, 3)
-            measure_check(work, 2000, 1, 3)
-            measure_maps(work, 64 * MIB, 1, 2)
-            measure_needs(work, 20000, 100000, 1, 3)
+        measurements(work)
     finally:
         shutil.rmtree(work)
     print(f"{failures} failed" if failures else "all passed")
     sys.exit(1 if failures else 0)
 
 
+def small_trees(work):
+    for shape in (trees.chain, trees.fan, trees.deep, trees.shared):
+        measure(shape, work, 2000, 10, 2, False)
+    measure_packages(work, 200, 10, 2, False)
+    measure_names(work, 2000, 10, 2)
+    measure_layout(work, 1900, 80, 10, 2)
+    measure_refresh(work, 200, 10, 2)
+    measure_check(work, 200, 10, 2)
+    measure_maps(work, MIB, 10, 2)
+    measure_needs(work, 2000, 10000, 10, 2)
+
+
+def whole_trees(work):
+    for shape in (trees.chain, trees.fan, trees.deep, trees.shared):
+        measure(shape, work, 20000, 1, 3, shape in (trees.chain, trees.fan))
+    measure_packages(work, 2000, 1, 3, True)
+    measure_names(work, 18000, 1, 2)
+    measure_layout(work, 19000, 800, 1, 3)
+    measure_refresh(work, 2000, 1, 3)
+    measure_check(work, 2000, 1, 3)
+    measure_maps(work, 64 * MIB, 1, 2)
+    measure_needs(work, 20000, 100000, 1, 3)
+
+
 if __name__ == "__main__":
-    main()
+    all_measured("bench", small_trees if is_smoke("bench/run.sh") else whole_trees)

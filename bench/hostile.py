@@ -1,17 +1,17 @@
-"""Measures build/salimgub on input that is made to be slow: maps, pages, modules, package.json files, projects and sessions of 16
-MiB, alone and together, and says PASS where it is done within ten seconds. Status and line are checked as well.
+"""Measures build/salimgub on input that is made to be slow: maps, pages, modules, package.json files, projects and
+sessions of 16 MiB, alone and together, and says PASS where it is done within ten seconds. Status and line are
+checked as well.
 
-`python3 -B bench/hostile.py [MIB] [WORD]..` takes input of another size, and runs the cases whose names hold one of the words. A
-run that takes more than `PATIENCE` seconds of processor time is stopped, and may use no more than `ROOM` of memory.
+`python3 -B bench/hostile.py [MIB] [WORD]..` takes input of another size, and runs the cases whose names hold one of
+the words. A run that takes more than `PATIENCE` seconds of processor time is stopped, and may use no more than
+`ROOM` of memory.
 """
 
-import json
 import os
 import resource
 import shutil
 import subprocess
 import sys
-import tempfile
 
 import bench
 import maps
@@ -354,21 +354,13 @@ def measure(work, name, case, size):
         bench.say(ran.seconds <= SECONDS, f"{told}, status {ran.status}")
 
 
-def main():
-    if not os.access(bench.PROGRAM, os.X_OK):
-        sys.exit("bench: there is no build/salimgub: run ./build.sh first")
+def measure_named(work):
     words = sys.argv[1:]
     size = int(float(words.pop(0)) * MIB) if words and words[0][0].isdigit() else SIZE
-    work = tempfile.mkdtemp(prefix="salimgub-hostile-")
-    try:
-        for name, case in CASES.items():
-            if not words or any(word in name for word in words):
-                measure(work, name, case, size)
-    finally:
-        shutil.rmtree(work)
-    print(f"{bench.failures} failed" if bench.failures else "all passed")
-    sys.exit(1 if bench.failures else 0)
+    for name, case in CASES.items():
+        if not words or any(word in name for word in words):
+            measure(work, name, case, size)
 
 
 if __name__ == "__main__":
-    main()
+    bench.all_measured("hostile", measure_named)

@@ -5,10 +5,8 @@ one names for bundlers, where a map comes of it alone."""
 import json
 import os
 import re
-import shutil
 import subprocess
 import sys
-import tempfile
 
 import bench
 import maps
@@ -71,6 +69,10 @@ class Site:
         self.put_module([specifier])
         return self.link().status == 0
 
+    def served(self):
+        """What each package may be asked for by, where a map comes of it alone."""
+        return [specifier for name in self.names() for specifier in self.specifiers(name) if self.has_map(specifier)]
+
     def read_paths(self):
         """The files whose digests stand in the map, and the records beside them."""
         with open(os.path.join(self.folder, "importmap.json"), encoding="utf-8") as file:
@@ -81,7 +83,7 @@ class Site:
 
 def measure(work):
     site = Site(os.path.join(work, "installed"))
-    asked = [specifier for name in site.names() for specifier in site.specifiers(name) if site.has_map(specifier)]
+    asked = site.served()
     site.put_module(asked)
     run = site.link(TRIES)
     if run.status != 0:
@@ -98,21 +100,15 @@ def measure(work):
 
 
 def main():
-    if sys.argv[1:] not in ([], ["smoke"]):
-        sys.exit("usage: python3 -B bench/installed.py")
-    if not os.path.isdir(INSTALLED) or sys.argv[1:]:
+    if bench.is_smoke("python3 -B bench/installed.py") or not os.path.isdir(INSTALLED):
         print(f"SKIP  installed packages: {'small trees alone' if sys.argv[1:] else 'none in ' + INSTALLED}")
         return
-    if not os.access(bench.PROGRAM, os.X_OK):
-        sys.exit("bench: there is no build/salimgub: run ./build.sh first")
-    work = tempfile.mkdtemp(prefix="salimgub-installed-")
-    try:
-        os.makedirs(os.path.join(work, "installed"))
-        measure(work)
-    finally:
-        shutil.rmtree(work)
-    print(f"{bench.failures} failed" if bench.failures else "all passed")
-    sys.exit(1 if bench.failures else 0)
+    bench.all_measured("installed", measure_installed)
+
+
+def measure_installed(work):
+    os.makedirs(os.path.join(work, "installed"))
+    measure(work)
 
 
 if __name__ == "__main__":

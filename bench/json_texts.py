@@ -1,5 +1,5 @@
-"""JSON texts of 16 MiB, each of one shape, written to a folder: `json_texts.py FOLDER`. The program value_count reads
-them."""
+"""JSON texts of 16 MiB, each of one shape, written to a folder: `json_texts.py FOLDER`. The layer `values` of
+layer_measure reads them."""
 
 import itertools
 import os

@@ -16,17 +16,19 @@ NOISE = 0.02
 failures = 0
 
 
-def program(crate):
-    """The program of a crate, as `rt run` in its folder leaves it."""
-    return os.path.join(HERE, "..", "crates", crate, "out", crate)
+# The program that measures the layers, as `rt ci`, or `rt run` in its folder, leaves it.
+LAYERS = os.path.abspath(os.path.join(HERE, "..", "crates", "layer_measure", "out", "layer_measure"))
 
 
-def need(*programs):
-    """Ends the script where one of these programs isn't there."""
-    for path in programs:
-        if not os.access(path, os.X_OK):
-            crate = os.path.basename(path)
-            sys.exit(f"bench: there is no crates/{crate}/out/{crate}: run `rt run` in crates/{crate} first")
+def layer(name):
+    """The words that put this layer to work, but for the file."""
+    return [LAYERS, name]
+
+
+def need():
+    """Ends the script where the program isn't there."""
+    if not os.access(LAYERS, os.X_OK):
+        sys.exit("bench: there is no program: run `rt run` in crates/layer_measure first")
 
 
 def say(passed, text):

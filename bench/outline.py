@@ -1,9 +1,9 @@
 """Measures how fast the outline of a module text is read, by processor time, and says PASS or FAIL to each target.
 
-It runs crates/outline_count/out/outline_count and crates/token_count/out/token_count, which `rt run` in their folders
-leaves there. The times hold all that these programs do: they start, read the file, see that it is UTF-8, and then read
-the text. The line that each prints is checked, against what the text is made to have. Beside them stands Debian's
-node-es-module-lexer, where it is installed: the time of its parse alone, once, of the text that Node has read.
+It runs the layers `outline` and `tokens` of crates/layer_measure, which `rt ci` or `rt run` in its folder builds. The
+times hold all that these programs do: they start, read the file, see that it is UTF-8, and then read the text. The line
+that each prints is checked, against what the text is made to have. Beside them stands Debian's node-es-module-lexer,
+where it is installed: the time of its parse alone, once, of the text that Node has read.
 """
 
 import os
@@ -16,8 +16,8 @@ import measure
 import tokens
 from measure import HERE, SIZE, TRIES, say
 
-OUTLINE = measure.program("outline_count")
-TOKENS = measure.program("token_count")
+OUTLINE = measure.layer("outline")
+TOKENS = measure.layer("tokens")
 PEER = "/usr/share/nodejs/es-module-lexer"
 IMPORTS = 4000
 # What Debian's packages put there: libjs-three, node-lodash, node-acorn, node-yjs and so on.
@@ -122,7 +122,7 @@ def best(shape, size, folder):
     """The fewest seconds of a few runs over one text, where each is right, and the bytes of the text."""
     text, wanted = shape(size)
     path, size = measure.written(folder, "module.mjs", text)
-    return measure.fewest(shape.__name__, [OUTLINE, path], wanted), size
+    return measure.fewest(shape.__name__, [*OUTLINE, path], wanted), size
 
 
 def peer(path):
@@ -145,8 +145,8 @@ def ordinary(folder):
     path, size = measure.written(folder, "module.mjs", text)
     mine, lexing = [], []
     for _ in range(TRIES):
-        mine.append(measure.right("code", [OUTLINE, path], wanted))
-        lexing.append(measure.run([TOKENS, path])[0])
+        mine.append(measure.right("code", [*OUTLINE, path], wanted))
+        lexing.append(measure.run([*TOKENS, path])[0])
     seconds, alone = min(mine), min(lexing)
     say(size / seconds >= SPEED, f"ordinary code: {seconds:.3f} s for {size} bytes, {size / seconds / 1e6:.0f} MB/s, "
                                  f"at least {SPEED / 1e6:.0f}")
@@ -173,9 +173,9 @@ def packages(folder):
         return
     joined = "\n;\n".join(texts) + "\n;\n"
     path, size = measure.written(folder, "module.mjs", joined * max(1, SIZE // len(joined)))
-    line = measure.run([OUTLINE, path])[1]
-    seconds = measure.fewest("packages", [OUTLINE, path], line)
-    alone = min(measure.run([TOKENS, path])[0] for _ in range(TRIES))
+    line = measure.run([*OUTLINE, path])[1]
+    seconds = measure.fewest("packages", [*OUTLINE, path], line)
+    alone = min(measure.run([*TOKENS, path])[0] for _ in range(TRIES))
     say(line.endswith("requests, a module") and size / seconds >= PACKAGES_SPEED,
         f"{len(texts)} texts of packages: {seconds:.3f} s for {size} bytes, {size / seconds / 1e6:.0f} MB/s, "
         f"at least {PACKAGES_SPEED / 1e6:.0f}; their tokens alone {size / alone / 1e6:.0f} MB/s")
@@ -184,7 +184,7 @@ def packages(folder):
 def main():
     if sys.argv[1:]:
         sys.exit("usage: python3 -B bench/outline.py")
-    measure.need(OUTLINE, TOKENS)
+    measure.need()
     with tempfile.TemporaryDirectory(prefix="salimgub-outline-") as folder:
         ordinary(folder)
         packages(folder)

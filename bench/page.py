@@ -1,9 +1,9 @@
 """Measures how fast a page is read and a map is put into it, by processor time, and says PASS or FAIL to each target.
 
-It runs crates/page_count/out/page_count, which `rt ci` or `rt run` in crates/page_count leaves there. The times hold
-all that this program does: it starts, reads the file, sees that it is UTF-8, and then counts the pieces, or finds the
-place of the map and writes the new page to memory. The line that it prints is checked, against counts that come from
-how the page is made.
+It runs the layers `pieces` and `inject` of crates/layer_measure, which `rt ci` or `rt run` in its folder builds. The
+times hold all that this program does: it starts, reads the file, sees that it is UTF-8, and then counts the pieces, or
+finds the place of the map and writes the new page to memory. The line that it prints is checked, against counts that
+come from how the page is made.
 """
 
 import sys
@@ -12,7 +12,7 @@ import tempfile
 import measure
 from measure import SIZE, say
 
-PROGRAM = measure.program("page_count")
+PIECES, INJECT = measure.layer("pieces"), measure.layer("inject")
 # Bytes in a second, of ordinary markup.
 SPEED = 150_000_000
 # How much longer twice the page may take.
@@ -135,8 +135,8 @@ def best(shape, size, folder):
     page, counted, injected = shape(size)
     path, size = measure.written(folder, "page.html", page)
     times = [
-        measure.fewest(shape.__name__, [PROGRAM, path], counted),
-        measure.fewest(shape.__name__, [PROGRAM, path, "inject"], injected),
+        measure.fewest(shape.__name__, [*PIECES, path], counted),
+        measure.fewest(shape.__name__, [*INJECT, path], injected),
     ]
     return times, size
 
@@ -144,7 +144,7 @@ def best(shape, size, folder):
 def main():
     if sys.argv[1:]:
         sys.exit("usage: python3 -B bench/page.py")
-    measure.need(PROGRAM)
+    measure.need()
     with tempfile.TemporaryDirectory(prefix="salimgub-page-") as folder:
         (floor, _), size = best(refused, SIZE, folder)
         print(f"      the file alone: {floor:.3f} s for {size} bytes")

@@ -1,13 +1,13 @@
 """Measures how fast specifiers are resolved, and says PASS or FAIL to each target. `smoke` runs small trees, against
 ten times each target.
 
-It runs crates/resolve_count/out/resolve_count, which `rt ci` or `rt run` in crates/resolve_count leaves there, in trees
-of its own. The program resolves each pair of a file over the folder in which it runs, round by round; what was looked
-at in one round is known in the next ones. So the first round is resolution from nothing, which stands beside `cat` of
-the same files, and what many rounds take beyond one is resolution over what is known. The line that the program prints
-is checked against how the tree is made. Judged is processor time, of the program and of the system for it, in the
-fewest of a few runs; the least by the wall clock is told beside it. How long the files take that are only opened, read
-and closed is told too.
+It runs the layer `resolve` of crates/layer_measure, which `rt ci` or `rt run` in its folder builds, in trees of its
+own. The program resolves each pair of a file over the folder in which it runs, round by round; what was looked at in
+one round is known in the next ones. So the first round is resolution from nothing, which stands beside `cat` of the
+same files, and what many rounds take beyond one is resolution over what is known. The line that the program prints is
+checked against how the tree is made. Judged is processor time, of the program and of the system for it, in the fewest
+of a few runs; the least by the wall clock is told beside it. How long the files take that are only opened, read and
+closed is told too.
 """
 
 import os
@@ -19,7 +19,7 @@ import measure
 import trees
 from measure import say
 
-PROGRAM = os.path.abspath(measure.program("resolve_count"))
+RESOLVE = measure.layer("resolve")
 # Resolutions in a second, over what is known.
 PACE = 150_000
 # How much longer than the reading of the same files a round from nothing may take.
@@ -60,7 +60,7 @@ def pairs_file(folder, name, pairs):
 
 
 def resolving(pairs, rounds):
-    return [PROGRAM, pairs, str(rounds)]
+    return [*RESOLVE, pairs, str(rounds)]
 
 
 def reading(folder, tree, files):
@@ -125,7 +125,7 @@ def main():
     smoke = sys.argv[1:] == ["smoke"]
     if sys.argv[1:] and not smoke:
         sys.exit("usage: python3 -B bench/resolve.py [smoke]")
-    measure.need(PROGRAM)
+    measure.need()
     before = os.getcwd()
     with tempfile.TemporaryDirectory(prefix="salimgub-resolve-") as folder:
         if smoke:

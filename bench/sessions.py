@@ -1,9 +1,6 @@
 """Measures sessions of build/salimgub and `measure`, and says PASS or FAIL to each target."""
 
 import os
-import shutil
-import sys
-import tempfile
 
 import bench
 import trees
@@ -66,21 +63,15 @@ def measure_puts(work, files, slack, tries):
               f"{many.memory / bench.MIB:.1f} MiB")
 
 
-def main():
-    smoke = sys.argv[1:] == ["smoke"]
-    if sys.argv[1:] and not smoke:
-        sys.exit("usage: python3 -B bench/sessions.py [smoke]")
-    if not os.access(bench.PROGRAM, os.X_OK):
-        sys.exit("bench: there is no build/salimgub: run ./build.sh first")
-    work = tempfile.mkdtemp(prefix="salimgub-sessions-")
-    try:
-        measure_stated(work, 200 if smoke else 2000, 10 if smoke else 1, 2 if smoke else 3)
-        measure_puts(work, 2 if smoke else 12, 10 if smoke else 1, 2 if smoke else 3)
-    finally:
-        shutil.rmtree(work)
-    print(f"{bench.failures} failed" if bench.failures else "all passed")
-    sys.exit(1 if bench.failures else 0)
+def measure_all(work):
+    measure_stated(work, 2000, 1, 3)
+    measure_puts(work, 12, 1, 3)
+
+
+def measure_small(work):
+    measure_stated(work, 200, 10, 2)
+    measure_puts(work, 2, 10, 2)
 
 
 if __name__ == "__main__":
-    main()
+    bench.all_measured("sessions", measure_small if bench.is_smoke("python3 -B bench/sessions.py") else measure_all)

@@ -1,9 +1,9 @@
 """Measures how fast the statement grammar reads a module text, by processor time, and how much memory it takes, and
 says PASS or FAIL to each target.
 
-It runs crates/strict_count/out/strict_count, which `rt run` in its folder leaves there. The times hold all that this
-program does: it starts, reads the file, reads the text's outline, and then reads it by the grammar. The files are those
-of Debian's libjs-three, node-lodash and node-acorn, where they are installed.
+It runs the layer `strict` of crates/layer_measure, which `rt ci` or `rt run` in its folder builds. The times hold all
+that this program does: it starts, reads the file, reads the text's outline, and then reads it by the grammar. The files
+are those of Debian's libjs-three, node-lodash and node-acorn, where they are installed.
 """
 
 import os
@@ -14,7 +14,7 @@ import tempfile
 import measure
 from measure import MIB, TRIES, say
 
-STRICT = measure.program("strict_count")
+STRICT = measure.layer("strict")
 FILES = (
     "/usr/share/javascript/three/three.module.js",
     "/usr/share/nodejs/lodash/lodash.js",
@@ -40,14 +40,14 @@ def hostile():
 
 
 def best(path):
-    return min(measure.run([STRICT, path]) for _ in range(TRIES))
+    return min(measure.run([*STRICT, path]) for _ in range(TRIES))
 
 
 def peak(path):
     """The most memory that a run takes, in bytes."""
     code = "import resource,subprocess,sys;subprocess.run(sys.argv[1:],stdout=subprocess.DEVNULL);"
     code += "print(resource.getrusage(resource.RUSAGE_CHILDREN).ru_maxrss)"
-    done = subprocess.run([sys.executable, "-c", code, STRICT, path], capture_output=True, text=True, check=True)
+    done = subprocess.run([sys.executable, "-c", code, *STRICT, path], capture_output=True, text=True, check=True)
     return int(done.stdout) * 1024
 
 
@@ -82,7 +82,7 @@ def made(folder):
 
 
 def main():
-    measure.need(STRICT)
+    measure.need()
     real()
     with tempfile.TemporaryDirectory() as folder:
         made(folder)

@@ -1,8 +1,8 @@
 """Measures how fast the tokens of a module text are read, by processor time, and says PASS or FAIL to each target.
 
-It runs crates/token_count/out/token_count, which `rt ci` or `rt run` in crates/token_count leaves there. The times hold
-all that this program does: it starts, reads the file, sees that it is UTF-8, and then reads the tokens. The line that
-it prints is checked, against counts that come from how the text is made.
+It runs the layer `tokens` of crates/layer_measure, which `rt ci` or `rt run` in its folder builds. The times hold all
+that this program does: it starts, reads the file, sees that it is UTF-8, and then reads the tokens. The line that it
+prints is checked, against counts that come from how the text is made.
 """
 
 import sys
@@ -11,7 +11,7 @@ import tempfile
 import measure
 from measure import SIZE, say
 
-PROGRAM = measure.program("token_count")
+TOKENS = measure.layer("tokens")
 DEPTH = 4096
 # Bytes in a second, of ordinary code.
 SPEED = 100_000_000
@@ -152,13 +152,13 @@ def best(shape, size, folder):
     """The fewest seconds of a few runs over one text, where each is right, and the bytes of the text."""
     text, wanted = shape(size)
     path, size = measure.written(folder, "module.mjs", text)
-    return measure.fewest(shape.__name__, [PROGRAM, path], wanted), size
+    return measure.fewest(shape.__name__, [*TOKENS, path], wanted), size
 
 
 def main():
     if sys.argv[1:]:
         sys.exit("usage: python3 -B bench/tokens.py")
-    measure.need(PROGRAM)
+    measure.need()
     with tempfile.TemporaryDirectory(prefix="salimgub-tokens-") as folder:
         floor, size = best(refused, SIZE, folder)
         print(f"      the file alone: {floor:.3f} s for {size} bytes")

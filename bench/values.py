@@ -1,9 +1,9 @@
 """Measures how fast JSON is read, by processor time, and says PASS or FAIL to the target.
 
-It runs crates/value_count/out/value_count, which `rt ci` or `rt run` in crates/value_count leaves there, on the texts
-of json_texts.py. The times hold all that this program does but for freeing the value: it starts, reads the file, and
-then reads the text. The number of values that it prints is checked against what Python's reader finds. Beside each
-stands Node's `JSON.parse` of the same text alone, where Node is installed.
+It runs the layer `values` of crates/layer_measure, which `rt ci` or `rt run` in its folder builds, on the texts of
+json_texts.py. The times hold all that this program does but for freeing the value: it starts, reads the file, and then
+reads the text. The number of values that it prints is checked against what Python's reader finds. Beside each stands
+Node's `JSON.parse` of the same text alone, where Node is installed.
 """
 
 import json
@@ -17,9 +17,10 @@ import tempfile
 import time
 
 import json_texts
+import measure
 
 HERE = os.path.dirname(os.path.abspath(__file__))
-PROGRAM = os.path.join(HERE, "..", "crates", "value_count", "out", "value_count")
+VALUES = measure.layer("values")
 TRIES = 7
 # Bytes in a second.
 SPEED = 50_000_000
@@ -39,7 +40,7 @@ failures = 0
 def seconds(path, wanted):
     """The processor time of one run, whose line is checked."""
     before = resource.getrusage(resource.RUSAGE_CHILDREN)
-    out = subprocess.run([PROGRAM, path], check=True, capture_output=True, text=True).stdout
+    out = subprocess.run([*VALUES, path], check=True, capture_output=True, text=True).stdout
     after = resource.getrusage(resource.RUSAGE_CHILDREN)
     if out != wanted:
         sys.exit(f"{os.path.basename(path)}: {out!r}, wanted {wanted!r}")
@@ -96,8 +97,7 @@ def tell(name, path, best, asked):
 
 
 def main():
-    if not os.access(PROGRAM, os.X_OK):
-        sys.exit("bench: there is no crates/value_count/out/value_count: run `rt run` in crates/value_count first")
+    measure.need()
     with tempfile.TemporaryDirectory(prefix="salimgub-values-") as folder:
         paths = {name: os.path.join(folder, f"{name}.json") for name in json_texts.TEXTS | json_texts.TOLD}
         texts = (json_texts.TEXTS | json_texts.TOLD).items()

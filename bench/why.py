@@ -1,9 +1,6 @@
 """Measures `why` of build/salimgub beside `link`, and says PASS or FAIL to each target."""
 
 import os
-import shutil
-import sys
-import tempfile
 
 import bench
 import trees
@@ -55,20 +52,13 @@ def measure(work, modules, slack, tries):
                   f"{by_link.memory / bench.MIB:.1f} MiB")
 
 
-def main():
-    smoke = sys.argv[1:] == ["smoke"]
-    if sys.argv[1:] and not smoke:
-        sys.exit("usage: python3 -B bench/why.py [smoke]")
-    if not os.access(bench.PROGRAM, os.X_OK):
-        sys.exit("bench: there is no build/salimgub: run ./build.sh first")
-    work = tempfile.mkdtemp(prefix="salimgub-why-")
-    try:
-        measure(work, 2000 if smoke else 20000, 10 if smoke else 1, 2 if smoke else 5)
-    finally:
-        shutil.rmtree(work)
-    print(f"{bench.failures} failed" if bench.failures else "all passed")
-    sys.exit(1 if bench.failures else 0)
+def measure_both(work):
+    measure(work, 20000, 1, 5)
+
+
+def measure_small(work):
+    measure(work, 2000, 10, 2)
 
 
 if __name__ == "__main__":
-    main()
+    bench.all_measured("why", measure_small if bench.is_smoke("python3 -B bench/why.py") else measure_both)

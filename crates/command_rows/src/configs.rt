@@ -109,7 +109,8 @@ fn after(alloc: Global, row: &str, found: Option<Config>, said: &mut Said) -> Op
             None
         }
         Ok(Wanted::Vendor { path }) => {
-            push_named("vendor ", &path, said);
+            said.push("vendor ");
+            push_bracketed(path.as_str(), said);
             None
         }
         Err(fault) => {

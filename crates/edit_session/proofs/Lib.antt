@@ -1,3 +1,4 @@
+mod LooksAgree
 mod AskedPaths
 mod LookedOn
 mod StandingLemmas

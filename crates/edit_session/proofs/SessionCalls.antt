@@ -39,6 +39,7 @@ use Rattle.edit_session.specs.NewLooks.{AsksNew, AsksKept, LooksNew}
 use Rattle.edit_session.specs.SessionTrees.{counts_in, IsSessionOf}
 use Rattle.edit_session.specs.Sessions.{IsOpened, OpensSession, IfRefused, StopsEdit, Accepts, Prepares, Commits}
 use Rattle.edit_session.specs.Steps.{MakesNext, IsStep}
+use Rattle.edit_session.specs.SessionParts.{Parts, IsPartsOf, parts_of}
 use Rattle.edit_session.specs.declared.session.Pending.{Pending}
 use Rattle.edit_session.specs.declared.session.Session.{Session}
 use Rattle.edit_session.specs.declared.stop.EditStop.{EditStop}
@@ -66,15 +67,6 @@ session_by tree old new behind laid config generated state is = record {
   };
 }
 
--- the session without what was pending
-abbrev pub cleared : Session → Session
-cleared old = record { known = old.known; config = old.config; generated = old.generated; pending = None }
-
--- the session with what is pending now
-abbrev pub with_next : Session → Pending → Session
-with_next session pending =
-    record { known = session.known; config = session.config; generated = session.generated; pending = Some pending }
-
 -- the line of an edit that isn't prepared
 pub line_of_stop : (state : SessionState) (edit : List Change) (why : EditStop) → StopsEdit state edit why
     → IfRefused (IsRefused state (edited (draft_of state) edit)) why
@@ -84,8 +76,8 @@ line_of_stop state edit (Generation why) is =
 line_of_stop state edit ReadFault is = tt
 line_of_stop state edit Memory is = tt
 
-module _ (before after : FolderState) (old mid : Session) (edit : List Change) where
-  cleared_so : (tree : Tree) (state : SessionState) → IsSessionOf tree old state → IsSessionOf tree (cleared old) state
+module _ (before after : FolderState) (old : Session) (mid : Parts) (edit : List Change) where
+  cleared_so : (tree : Tree) (state : SessionState) → IsSessionOf tree old state → IsPartsOf tree (parts_of old) state
   cleared_so tree state is = record { stands = is.stands; is_state = is.is_state }
 
   abbrev AsksEdit : Tree → List ℕ → Type 0
@@ -95,7 +87,7 @@ module _ (before after : FolderState) (old mid : Session) (edit : List Change) w
   Asks path = IfSome before.holds (λ tree. AsksEdit tree path)
 
   abbrev AsksCleared : Tree → List ℕ → Type 0
-  AsksCleared tree path = (state : SessionState) → IsSessionOf tree (cleared old) state → IsEditLook state edit path
+  AsksCleared tree path = (state : SessionState) → IsPartsOf tree (parts_of old) state → IsEditLook state edit path
 
   looks_new : (known : Known) (failed some fails unfinished : Type 0) → (fails → failed) → (failed → fails) → (some → unfinished)
       → LooksOn before old.known after known failed some AsksCleared
@@ -130,7 +122,7 @@ module _ (before after : FolderState) (old mid : Session) (edit : List Change) w
   abbrev stops : EditStop → Done
   stops why = Err why
 
-  module _ (result : Result Pending EditStop) (is : MakesNext before (cleared old) edit result after mid) where
+  module _ (result : Result Pending EditStop) (is : MakesNext before (parts_of old) edit result after mid) where
     stays_so : (new : Session) → new.known ≡ mid.known → new.config ≡ mid.config → new.generated ≡ mid.generated
         → IfSome before.holds (λ tree. (state : SessionState) → IsSessionOf tree old state → IsSessionOf tree new state)
     stays_so new known config generated =
@@ -140,7 +132,7 @@ module _ (before after : FolderState) (old mid : Session) (edit : List Change) w
         (ap (λ (k : Known). k.laid) known ∙ is.looks.laid) (config ∙ is.same.config) (generated ∙ is.same.generated) state there)
 
   why_so : (why : EditStop)
-      → ((tree : Tree) (state : SessionState) → before.holds ≡ Some tree → IsSessionOf tree (cleared old) state → StopsEdit state edit why)
+      → ((tree : Tree) (state : SessionState) → before.holds ≡ Some tree → IsPartsOf tree (parts_of old) state → StopsEdit state edit why)
       → IfSome before.holds (λ tree. (state : SessionState) → IsSessionOf tree old state → StopsEdit state edit why)
   why_so why is =
       all_told (λ tree. (state : SessionState) → IsSessionOf tree old state → StopsEdit state edit why) before.holds
@@ -156,67 +148,77 @@ module _ (before after : FolderState) (old mid : Session) (edit : List Change) w
   refusal_so ReadFault is = tt
   refusal_so Memory is = tt
 
-  pub not_prepared : (why : EditStop) → MakesNext before (cleared old) edit (Err why) after mid
-      → Prepares before old edit (Err why) after mid
-  not_prepared why is = record {
-    config = is.same.config;
-    generated = is.same.generated;
-    looks = looks_new mid.known (next_stops why ≡ Err ReadFault) (next_stops why ≡ Err Memory) (stops why ≡ Err ReadFault)
-        (stops why ≡ Err Memory) (λ e. let same : why ≡ ReadFault = cc in ap next_stops same)
-        (λ e. let same : why ≡ ReadFault = cc in ap stops same) (λ e. let same : why ≡ Memory = cc in ap stops same) is.looks;
-    accepted = tt;
-    refused = refusal_so why (why_so why is.refused);
-    why = why_so why is.refused;
-    kind = is.kind;
-    stays = stays_so (next_stops why) is mid refl refl refl;
-    pending = tt;
-    nothing_pending = is.same.pending;
-  }
+  module _ (new : Session) (known : new.known ≡ mid.known) (config : new.config ≡ mid.config)
+      (generated : new.generated ≡ mid.generated) where
+    looks_so : (failed some fails unfinished : Type 0) → (fails → failed) → (failed → fails) → (some → unfinished)
+        → LooksOn before old.known after mid.known failed some AsksCleared
+        → LooksNew before old.known after new.known fails unfinished Asks
+    looks_so failed some fails unfinished back on weaker looks =
+        subst (λ k. LooksNew before old.known after k fails unfinished Asks) (sym known)
+        (looks_new mid.known failed some fails unfinished back on weaker looks)
 
-  pub prepared : (pending : Pending) → MakesNext before (cleared old) edit (Ok pending) after mid
-      → Prepares before old edit (Ok tt) after (with_next mid pending)
-  prepared pending is = record {
-    config = is.same.config;
-    generated = is.same.generated;
-    looks = looks_new mid.known (next_leads pending ≡ Err ReadFault) (next_leads pending ≡ Err Memory)
-        (is_done ≡ Err ReadFault) (is_done ≡ Err Memory) (λ e. absurd (cc))
-        (λ e. absurd (cc)) (λ e. absurd (cc)) is.looks;
-    accepted = all_told (λ tree. (state : SessionState) → IsSessionOf tree old state → Accepts tree state edit (with_next mid pending))
-        before.holds
-        (λ tree e state there.
-        let leads = is.accepted tree state e (cleared_so tree state there) in
-        record {
-          next = leads.next;
-          line = leads.line;
-          is_pending = record {
-            pending = pending;
-            is_there = refl;
-            is_state = record {
-              laid = leads.is_state.laid;
-              is_tree = leads.is_state.is_tree;
-              config_is = leads.is_state.config_is ∙ ap (λ (config : Config). config_with config pending.entries) (sym is.same.config);
-              map_is = leads.is_state.map_is;
-              counts_are = leads.is_state.counts_are;
+    pub not_prepared : (why : EditStop) → new.pending ≡ None → MakesNext before (parts_of old) edit (Err why) after mid
+        → Prepares before old edit (Err why) after new
+    not_prepared why none is = record {
+      config = config ∙ is.same.config;
+      generated = generated ∙ is.same.generated;
+      looks = looks_so (next_stops why ≡ Err ReadFault) (next_stops why ≡ Err Memory) (stops why ≡ Err ReadFault)
+          (stops why ≡ Err Memory) (λ e. let same : why ≡ ReadFault = cc in ap next_stops same)
+          (λ e. let same : why ≡ ReadFault = cc in ap stops same) (λ e. let same : why ≡ Memory = cc in ap stops same) is.looks;
+      accepted = tt;
+      refused = refusal_so why (why_so why is.refused);
+      why = why_so why is.refused;
+      kind = is.kind;
+      stays = stays_so (next_stops why) is new known config generated;
+      pending = tt;
+      nothing_pending = none;
+    }
+
+    pub prepared : (pending : Pending) → new.pending ≡ Some pending → MakesNext before (parts_of old) edit (Ok pending) after mid
+        → Prepares before old edit (Ok tt) after new
+    prepared pending there is = record {
+      config = config ∙ is.same.config;
+      generated = generated ∙ is.same.generated;
+      looks = looks_so (next_leads pending ≡ Err ReadFault) (next_leads pending ≡ Err Memory)
+          (is_done ≡ Err ReadFault) (is_done ≡ Err Memory) (λ e. absurd (cc))
+          (λ e. absurd (cc)) (λ e. absurd (cc)) is.looks;
+      accepted = all_told (λ tree. (state : SessionState) → IsSessionOf tree old state → Accepts tree state edit new)
+          before.holds
+          (λ tree e state is_state.
+          let leads = is.accepted tree state e (cleared_so tree state is_state) in
+          record {
+            next = leads.next;
+            line = leads.line;
+            is_pending = record {
+              pending = pending;
+              is_there = there;
+              is_state = record {
+                laid = leads.is_state.laid;
+                is_tree = leads.is_state.is_tree;
+                config_is = leads.is_state.config_is
+                    ∙ ap (λ (c : Config). config_with c pending.entries) (sym (config ∙ is.same.config));
+                map_is = leads.is_state.map_is;
+                counts_are = leads.is_state.counts_are;
+              };
             };
-          };
-          accepted = leads.accepted;
-        });
-    refused = tt;
-    why = tt;
-    kind = tt;
-    stays = stays_so (next_leads pending) is (with_next mid pending) refl refl refl;
-    pending = refl;
-    nothing_pending = tt;
-  }
+            accepted = leads.accepted;
+          });
+      refused = tt;
+      why = tt;
+      kind = tt;
+      stays = stays_so (next_leads pending) is new known config generated;
+      pending = ap is_some there;
+      nothing_pending = tt;
+    }
 
 -- ---- a step
 
 same_pending : (one other : Pending) (there : Option Pending) → there ≡ Some one → there ≡ Some other → one ≡ other
 same_pending one other there e f = (let same : Some one ≡ Some other = sym e ∙ f in let p : one ≡ other = cc in p)
 
-pub committed : (old new : Session) (pending : Pending) → old.pending ≡ Some pending
-    → IsStep (cleared old) pending new → Commits old new
-committed old new pending there step = record {
+pub committed : (old new : Session) (pending : Pending) → old.pending ≡ Some pending → new.pending ≡ None
+    → IsStep (parts_of old) pending (parts_of new) → Commits old new
+committed old new pending there none step = record {
   becomes = λ tree state next is is_next.
       (let same : is_next.pending ≡ pending = same_pending is_next.pending pending old.pending is_next.is_there there in
       record {
@@ -239,17 +241,8 @@ committed old new pending there step = record {
         generated = step.generated ∙ ap (λ (p : Pending). p.generated) same;
       });
   kept = λ path. ap (λ kept. map.get bytes_eq kept path) step.kept;
-  nothing_pending = step.pending_is;
+  nothing_pending = none;
 }
-
--- the session without what was taken
-abbrev pub without : Session → Option Pending → Session
-without old left = record { known = old.known; config = old.config; generated = old.generated; pending = left }
-
-pub committed_by : (old new : Session) (pending : Pending) (left : Option Pending) → left ≡ None
-    → old.pending ≡ Some pending → IsStep (without old left) pending new → Commits old new
-committed_by old new pending left none there step =
-    committed old new pending there (subst (λ l. IsStep (without old l) pending new) none step)
 
 -- ---- the opening
 
@@ -310,50 +303,52 @@ module _ (config : Config) (before after : FolderState) (known later : Known)
   abbrev gives : Generated → Result Generated Stop
   gives found = Ok found
 
-  abbrev opened_by : Generated → Session
-  opened_by found = record { known = later; config = config; generated = found; pending = None }
-
-  is_opened : (found : Generated) → Made (Ok found) → (tree : Tree) → before.holds ≡ Some tree
-      → IsOpened tree config (opened_by found)
-  is_opened found is tree e = record {
-    state = record { tree = tree; config = config; map = found.map.items; counts = counts_in found };
-    is_state = record {
-      stands = looks_keep_behind tree known later is.learns.known
-          (some_told (λ tree. IsSameIn tree (state before known no_trail) (state after later no_trail)) before.holds tree e is.learns.same)
-          (nothing_kept tree known none_kept);
+  module _ (session : Session) (found : Generated) (known_is : session.known ≡ later) (config_is : session.config ≡ config)
+      (map_is : session.generated ≡ found) where
+    is_opened : Made (Ok found) → (tree : Tree) → before.holds ≡ Some tree → IsOpened tree config session
+    is_opened is tree e = record {
+      state = record { tree = tree; config = config; map = found.map.items; counts = counts_in found };
       is_state = record {
-        laid = nothing_laid tree later.laid (λ path. is.learns.known.laid path ∙ none_laid path);
-        is_tree = some_told IsTree before.holds tree e told;
-        config_is = refl;
-        map_is = refl;
-        counts_are = refl;
+        stands = subst (StandsBehind tree) (sym known_is)
+            (looks_keep_behind tree known later is.learns.known
+            (some_told (λ tree. IsSameIn tree (state before known no_trail) (state after later no_trail)) before.holds tree e is.learns.same)
+            (nothing_kept tree known none_kept));
+        is_state = record {
+          laid = subst (λ (k : Known). IsLaid tree k.laid tree) (sym known_is)
+              (nothing_laid tree later.laid (λ path. is.learns.known.laid path ∙ none_laid path));
+          is_tree = some_told IsTree before.holds tree e told;
+          config_is = sym config_is;
+          map_is = sym (ap (λ (g : Generated). g.map.items) map_is);
+          counts_are = sym (ap counts_in map_is);
+        };
       };
-    };
-    tree_is = refl;
-    config_is = refl;
-    current = generated_of tree config found (in_tree (λ seen. IsMapOfTree seen config found) is.generated tree e);
-  }
+      tree_is = refl;
+      config_is = refl;
+      current = generated_of tree config found (in_tree (λ seen. IsMapOfTree seen config found) is.generated tree e);
+    }
 
-  pub opened : (found : Generated) → PageIsFile config → Made (Ok found)
-      → OpensSession config before (Ok (opened_by found)) after
-  opened found page is = record {
-    opened = all_told (λ tree. IsOpened tree config (opened_by found)) before.holds (is_opened found is);
-    page = page;
-    nothing_laid = λ path. is.learns.known.laid path ∙ none_laid path;
-    nothing_pending = refl;
-    refused = tt;
-    kind = tt;
-    asked = asks (gives found ≡ Err stop.Memory) is.learns;
-    footprint = asks_within (gives found ≡ Err stop.Memory) is.learns;
-    kept = asks_kept (gives found ≡ Err stop.Memory) (λ e. absurd (cc)) is.learns;
-    looks = record {
-      tree = is.looks.tree;
-      writes = is.looks.writes;
-      later = is.looks.later;
-      cause = λ e. absurd (cc);
-      quiet = λ none. is.looks.quiet (λ e. absurd (cc));
-    };
-  }
+    pub opened : session.pending ≡ None → PageIsFile config → Made (Ok found)
+        → OpensSession config before (Ok session) after
+    opened none page is = record {
+      opened = all_told (λ tree. IsOpened tree config session) before.holds (is_opened is);
+      page = page;
+      nothing_laid = λ path.
+          ap (λ (k : Known). laid_at k path) known_is ∙ (is.learns.known.laid path ∙ none_laid path);
+      nothing_pending = none;
+      refused = tt;
+      kind = tt;
+      asked = asks (gives found ≡ Err stop.Memory) is.learns;
+      footprint = asks_within (gives found ≡ Err stop.Memory) is.learns;
+      kept = subst (λ (k : Known). IfSome before.asked (λ old. AsksKept old after k)) (sym known_is)
+          (asks_kept (gives found ≡ Err stop.Memory) (λ e. absurd (cc)) is.learns);
+      looks = record {
+        tree = is.looks.tree;
+        writes = is.looks.writes;
+        later = is.looks.later;
+        cause = λ e. absurd (cc);
+        quiet = λ none. is.looks.quiet (λ e. absurd (cc));
+      };
+    }
 
   abbrev no_map : Stop → Result Generated Stop
   no_map why = Err why

@@ -23,13 +23,13 @@ use Rattle.session_spec.specs.Replies.{accepted_line}
 use Rattle.session_spec.specs.SessionStates.{SessionState, draft_of, config_with, IsGenerated}
 use Rattle.edit_session.specs.LooksOn.{LooksOn}
 use Rattle.edit_session.specs.Making.{Work, work, IsDraftOf, LeavesDraft}
-use Rattle.edit_session.specs.SessionTrees.{IsSessionOf, counts_in}
+use Rattle.edit_session.specs.SessionTrees.{counts_in}
 use Rattle.edit_session.specs.Sessions.{StopsEdit, CanStopEdit}
 use Rattle.edit_session.specs.Steps.{LeadsTo, CanLackMap, IsAsBefore, GeneratesNext, MakesNext}
 use Rattle.edit_session.specs.Stopping.{stop_by, stop_for}
 use Rattle.edit_session.specs.Trying.{TriesMap}
+use Rattle.edit_session.specs.SessionParts.{Parts, IsPartsOf}
 use Rattle.edit_session.specs.declared.session.Pending.{Pending}
-use Rattle.edit_session.specs.declared.session.Session.{Session}
 use Rattle.edit_session.specs.declared.stop.ChangeStop.{ChangeStop}
 use Rattle.edit_session.specs.declared.stop.ChangeStop.TheVariants as change
 use Rattle.edit_session.specs.declared.stop.EditStop.{EditStop}
@@ -57,7 +57,7 @@ made_stop stop = Err stop
 
 -- ---- the map for what the changes leave
 
-module _ (before after : FolderState) (old new : Session) (over left : Over) (entries : List (List ℕ))
+module _ (before after : FolderState) (old new : Parts) (over left : Over) (entries : List (List ℕ))
     (same : IsAsBefore old new) where
   abbrev Asked : Tree → List ℕ → Type 0
   Asked tree path =
@@ -117,7 +117,7 @@ module _ (before after : FolderState) (old new : Session) (over left : Over) (en
 
 -- ---- an edit
 
-module _ (before middle : FolderState) (old mid : Session) (edit : List Change) (over between : Over)
+module _ (before middle : FolderState) (old mid : Parts) (edit : List Change) (over between : Over)
     (entries later_entries : List (List ℕ)) (is_copy : (path : List ℕ) → over_at over path ≡ over_at old.known.laid path)
     (are_copied : entries ≡ old.config.entries) (same : IsAsBefore old mid) where
   abbrev first : Work
@@ -126,7 +126,7 @@ module _ (before middle : FolderState) (old mid : Session) (edit : List Change) 
   abbrev second : Work
   second = work middle mid.known between later_entries
 
-  draft_is : (tree : Tree) (state : SessionState) → IsSessionOf tree old state → IsDraftOf tree first (draft_of state)
+  draft_is : (tree : Tree) (state : SessionState) → IsPartsOf tree old state → IsDraftOf tree first (draft_of state)
   draft_is tree state is = record {
     seen = record {
       stands = is.stands;
@@ -140,7 +140,7 @@ module _ (before middle : FolderState) (old mid : Session) (edit : List Change) 
   AsksChange tree path = (draft : Draft) → IsDraftOf tree first draft → Contains (edit_looks draft edit) path
 
   abbrev AsksEdit : Tree → List ℕ → Type 0
-  AsksEdit tree path = (state : SessionState) → IsSessionOf tree old state → IsEditLook state edit path
+  AsksEdit tree path = (state : SessionState) → IsPartsOf tree old state → IsEditLook state edit path
 
   asks_change : (tree : Tree) (path : List ℕ) → before.holds ≡ Some tree → AsksChange tree path → AsksEdit tree path
   asks_change tree path e there state is = of_change (there (draft_of state) (draft_is tree state is))
@@ -180,12 +180,12 @@ module _ (before middle : FolderState) (old mid : Session) (edit : List Change) 
 
   -- ---- all changes are made
 
-  module _ (makes : MakesAll edit first (Ok tt) second) (after : FolderState) (new : Session) (result : Next)
+  module _ (makes : MakesAll edit first (Ok tt) second) (after : FolderState) (new : Parts) (result : Next)
       (generates : GeneratesNext middle mid between later_entries result after new) where
     told_on : (tree : Tree) → before.holds ≡ Some tree → middle.holds ≡ Some tree
     told_on tree e = makes.looks.looks.tree ∙ e
 
-    left_by : (tree : Tree) (state : SessionState) → before.holds ≡ Some tree → IsSessionOf tree old state
+    left_by : (tree : Tree) (state : SessionState) → before.holds ≡ Some tree → IsPartsOf tree old state
         → LeavesDraft tree (edited (draft_of state) edit) (Ok tt) second
     left_by tree state e is = makes.leaves tree (draft_of state) e (draft_is tree state is)
 
@@ -221,12 +221,11 @@ module _ (before middle : FolderState) (old mid : Session) (edit : List Change) 
     same_all = record {
       config = generates.same.config ∙ same.config;
       generated = generates.same.generated ∙ same.generated;
-      pending = generates.same.pending ∙ same.pending;
     }
 
-  module _ (makes : MakesAll edit first (Ok tt) second) (after : FolderState) (new : Session) where
+  module _ (makes : MakesAll edit first (Ok tt) second) (after : FolderState) (new : Parts) where
     leads : (pending : Pending) → GeneratesNext middle mid between later_entries (Ok pending) after new → (tree : Tree)
-        (state : SessionState) → before.holds ≡ Some tree → IsSessionOf tree old state
+        (state : SessionState) → before.holds ≡ Some tree → IsPartsOf tree old state
         → LeadsTo tree state edit old.config pending
     leads pending generates tree state e is =
         (let next = left_by makes after new (next_of pending) generates tree state e is in
@@ -268,7 +267,7 @@ module _ (before middle : FolderState) (old mid : Session) (edit : List Change) 
     }
 
     refused_so : (stop : EditStop) → GeneratesNext middle mid between later_entries (Err stop) after new → (tree : Tree)
-        (state : SessionState) → before.holds ≡ Some tree → IsSessionOf tree old state → StopsEdit state edit stop
+        (state : SessionState) → before.holds ≡ Some tree → IsPartsOf tree old state → StopsEdit state edit stop
     refused_so (NoChange fault) generates tree state e is =
         (let next = left_by makes after new (stopped (NoChange fault)) generates tree state e is in
         absurd
@@ -303,23 +302,23 @@ module _ (before middle : FolderState) (old mid : Session) (edit : List Change) 
       kind = kind_so stop generates.kind;
     }
 
-pub lacks_next : (before : FolderState) (old : Session) (edit : List Change)
+pub lacks_next : (before : FolderState) (old : Parts) (edit : List Change)
     → MakesNext before old edit (Err Memory) before old
 lacks_next before old edit = record {
-  same = record { config = refl; generated = refl; pending = refl };
+  same = record { config = refl; generated = refl };
   looks = looks_on_nothing before old.known (stopped Memory ≡ Err ReadFault) (stopped Memory ≡ Err Memory)
-      (λ tree path. (state : SessionState) → IsSessionOf tree old state → IsEditLook state edit path) (λ e. absurd (cc));
+      (λ tree path. (state : SessionState) → IsPartsOf tree old state → IsEditLook state edit path) (λ e. absurd (cc));
   accepted = tt;
   refused = λ tree state e is. tt;
   kind = tt;
 }
 
 -- whatever comes of the map
-module _ (before middle : FolderState) (old mid : Session) (edit : List Change) (over between : Over)
+module _ (before middle : FolderState) (old mid : Parts) (edit : List Change) (over between : Over)
     (entries later_entries : List (List ℕ)) (is_copy : (path : List ℕ) → over_at over path ≡ over_at old.known.laid path)
     (are_copied : entries ≡ old.config.entries) (same : IsAsBefore old mid)
     (makes : MakesAll edit (work before old.known over entries) (Ok tt) (work middle mid.known between later_entries))
-    (after : FolderState) (new : Session) where
+    (after : FolderState) (new : Parts) where
   pub made_next : (result : Next) → GeneratesNext middle mid between later_entries result after new
       → MakesNext before old edit result after new
   made_next (Ok pending) generates =

@@ -1,4 +1,6 @@
+pub mod Agreement
 pub mod SessionTrees
+pub mod SessionParts
 pub mod NewLooks
 pub mod Sessions
 pub mod LooksOn

@@ -2,7 +2,7 @@
 --     LeadsTo tree state edit config pending  the edit leads to what is pending, for this config
 --     LacksMap tree config stop               for this reason there is no map
 --     CanLackMap config stop                  there can be none, whatever the folder tells
---     IsAsBefore old new                      but for what is kept, the session is as before
+--     IsAsBefore old new                      but for what is kept, the parts are as before
 --     GeneratesNext before old over entries result after new      what is pending once the changes are made
 --     MakesNext before old edit result after new                  what is pending of an edit
 --     IsStep old pending new                  what is pending becomes the state
@@ -24,10 +24,10 @@ use Rattle.session_spec.specs.Replies.{IsAccepted}
 use Rattle.session_spec.specs.SessionStates.{SessionState, config_with, IsGenerated}
 use Rattle.edit_session.specs.LooksOn.{LooksOn}
 use Rattle.edit_session.specs.Sessions.{StopsEdit, CanStopEdit}
-use Rattle.edit_session.specs.SessionTrees.{IsSessionOf, IsStateOf, counts_in}
+use Rattle.edit_session.specs.SessionTrees.{IsStateOf, counts_in}
 use Rattle.edit_session.specs.Trying.{IfLaid}
+use Rattle.edit_session.specs.SessionParts.{Parts, IsPartsOf}
 use Rattle.edit_session.specs.declared.session.Pending.{Pending}
-use Rattle.edit_session.specs.declared.session.Session.{Session}
 use Rattle.edit_session.specs.declared.stop.EditStop.{EditStop}
 use Rattle.edit_session.specs.declared.stop.EditStop.TheVariants.{Change as NoChange, Generation, ReadFault, Memory}
 
@@ -51,14 +51,13 @@ CanLackMap config (Generation why) = IsRefusalOf config Refresh why
 CanLackMap config ReadFault = ⊤
 CanLackMap config Memory = ⊤
 
--- own: but for what is kept, the session is as before
-pub record IsAsBefore (old new : Session) : Type 0 where
+-- own: but for what is kept, the parts are as before
+pub record IsAsBefore (old new : Parts) : Type 0 where
   pub config : new.config ≡ old.config
   pub generated : new.generated ≡ old.generated
-  pub pending : new.pending ≡ old.pending
 
-pub record GeneratesNext (before : FolderState) (old : Session) (over : Over) (entries : List (List ℕ))
-    (result : Result Pending EditStop) (after : FolderState) (new : Session) : Type 0 where
+pub record GeneratesNext (before : FolderState) (old : Parts) (over : Over) (entries : List (List ℕ))
+    (result : Result Pending EditStop) (after : FolderState) (new : Parts) : Type 0 where
   pub same : IsAsBefore old new
   pub looks :
       LooksOn before old.known after new.known (result ≡ Err ReadFault) (result ≡ Err Memory)
@@ -74,23 +73,22 @@ pub record GeneratesNext (before : FolderState) (old : Session) (over : Over) (e
       (λ seen. LacksMap seen (config_with old.config entries) stop))
   pub kind : IfErr result (CanLackMap (config_with old.config entries))
 
-pub record MakesNext (before : FolderState) (old : Session) (edit : List Change) (result : Result Pending EditStop)
-    (after : FolderState) (new : Session) : Type 0 where
+pub record MakesNext (before : FolderState) (old : Parts) (edit : List Change) (result : Result Pending EditStop)
+    (after : FolderState) (new : Parts) : Type 0 where
   pub same : IsAsBefore old new
   pub looks :
       LooksOn before old.known after new.known (result ≡ Err ReadFault) (result ≡ Err Memory)
-      (λ tree path. (state : SessionState) → IsSessionOf tree old state → IsEditLook state edit path)
+      (λ tree path. (state : SessionState) → IsPartsOf tree old state → IsEditLook state edit path)
   pub accepted :
       IfOk result (λ pending. (tree : Tree) (state : SessionState) → before.holds ≡ Some tree
-      → IsSessionOf tree old state → LeadsTo tree state edit old.config pending)
+      → IsPartsOf tree old state → LeadsTo tree state edit old.config pending)
   pub refused :
       IfErr result (λ stop. (tree : Tree) (state : SessionState) → before.holds ≡ Some tree
-      → IsSessionOf tree old state → StopsEdit state edit stop)
+      → IsPartsOf tree old state → StopsEdit state edit stop)
   pub kind : IfErr result (CanStopEdit old.config edit)
 
-pub record IsStep (old : Session) (pending : Pending) (new : Session) : Type 0 where
+pub record IsStep (old : Parts) (pending : Pending) (new : Parts) : Type 0 where
   pub laid : new.known.laid ≡ pending.over
   pub kept : new.known.kept ≡ old.known.kept
   pub config : new.config ≡ config_with old.config pending.entries
   pub generated : new.generated ≡ pending.generated
-  pub pending_is : new.pending ≡ old.pending

@@ -7,8 +7,8 @@ ghost use Rattle.edit_session.specs.Making.{work, IsAllowed, Makes};
 
 use crate::entries::Entries;
 use crate::files::{drop_file, put};
+use crate::looks::Looks;
 use crate::stop::ChangeStop;
-use package_lookup::{Known, Over};
 use session_spec::{Change, EditFault};
 use std::alloc::Global;
 use tree_model::{Folder, Path};
@@ -17,19 +17,18 @@ use tree_spec::LookFault;
 /// Makes changes one after another.
 pub(crate) fn make_all<F: Folder>(
     alloc: Global,
-    known: &mut Known,
-    over: &mut Over,
+    looks: &mut Looks,
     entries: &mut Entries,
     folder: &mut F,
     edit: &[Change],
 ) -> Result<(), ChangeStop>
     ensures { Makes (λ draft. edited draft edit.now) (λ draft. edit_looks draft edit.now) (CanRefuseEdit edit.now)
-        (work (F.state folder.old) known.old over.old entries.old) result
-        (work (F.state folder.new) known.new over.new entries.new) }
+        (work (F.state folder.old) looks.old.known looks.old.over entries.old) result
+        (work (F.state folder.new) looks.new.known looks.new.over entries.new) }
 {
     let mut rest = edit;
     while let Some((change, more)) = rest.split_first() {
-        match make(alloc, known, over, entries, folder, change) {
+        match make(alloc, looks, entries, folder, change) {
             Err(stop) => return Err(stop),
             Ok(()) => rest = more,
         }
@@ -40,25 +39,24 @@ pub(crate) fn make_all<F: Folder>(
 // Makes one change.
 fn make<F: Folder>(
     alloc: Global,
-    known: &mut Known,
-    over: &mut Over,
+    looks: &mut Looks,
     entries: &mut Entries,
     folder: &mut F,
     change: &Change,
 ) -> Result<(), ChangeStop>
     ensures { Makes (λ draft. changed draft change.now) (λ draft. change_looks (get draft.tree) change.now)
-        (CanRefuseChange change.now) (work (F.state folder.old) known.old over.old entries.old) result
-        (work (F.state folder.new) known.new over.new entries.new) }
+        (CanRefuseChange change.now) (work (F.state folder.old) looks.old.known looks.old.over entries.old) result
+        (work (F.state folder.new) looks.new.known looks.new.over entries.new) }
 {
     match change {
         Change::Link { entry } => entries.link(alloc, entry),
         Change::Unlink { entry } => entries.unlink(alloc, entry),
         Change::Put { path, bytes } => {
-            let made = put(alloc, known, over, folder, path, bytes);
+            let made = put(alloc, looks, folder, path, bytes);
             allowed(alloc, path, made)
         }
         Change::Drop { path } => {
-            let made = drop_file(alloc, known, over, folder, path);
+            let made = drop_file(alloc, looks, folder, path);
             allowed(alloc, path, made)
         }
     }

@@ -6,8 +6,11 @@
 mod changes;
 mod entries;
 mod files;
+mod looks;
+mod made;
 mod session;
 mod standing;
+mod steps;
 mod stop;
 mod trying;
 

@@ -1,22 +1,21 @@
-ghost use Rattle.std.specs.Prelude.{◌≡◌, ℕ, List, true, is_some, IfOk};
-ghost use Rattle.package_lookup.specs.Looked.{over_at};
+ghost use Rattle.std.specs.Prelude.{◌≡◌, None, Some, true, is_some};
 ghost use Rattle.request_trace.specs.Tracing.{TakesSteps};
-ghost use Rattle.edit_session.specs.SessionTrees.{shown_map, shown_counts, counts_told, steps_of, pending_steps};
-ghost use Rattle.edit_session.specs.Sessions.{OpensSession, Prepares, Commits};
-ghost use Rattle.edit_session.specs.Steps.{MakesNext, GeneratesNext, IsStep};
+ghost use Rattle.edit_session.specs.Agreement.{AgreeBut, next_over};
 
-use crate::changes::make_all;
 use crate::entries::Entries;
+use crate::looks::Looks;
+use crate::made::Made;
+use crate::steps::{next, step};
 use crate::stop::EditStop;
-use crate::trying::try_map;
 use generation::{Generated, Stop, generate_over};
 use package_lookup::{Known, Over};
 use request_trace::Config;
 use session_spec::Change;
-use shared_types::{Listed, Memory, Steps};
+use shared_types::{Listed, Steps};
 use std::alloc::Global;
+use std::mem;
 use std::sync::ledger::Ledger;
-use tree_model::Folder;
+use tree_model::{Folder, Path};
 
 /// Changes that are made together, one after another.
 pub type Edit = Listed<Change>;
@@ -37,17 +36,26 @@ pub struct Session {
     config: Config,
     generated: Generated,
     pending: Option<Pending>,
+    // Looks for the next edit, unless what is pending has them; and the paths at which they may be others than those
+    // that are laid.
+    spare: Over,
+    changed: Vec<Path>,
+    ghost agree: { AgreeBut changed.items known.laid (next_over spare pending) },
 }
 
 /// What an edit makes of a session: other looks that are laid, other entries, and the map for them.
 #[derive(Drop)]
 pub(crate) struct Pending {
-    over: Over,
-    entries: Entries,
-    generated: Generated,
+    pub(crate) over: Over,
+    pub(crate) entries: Entries,
+    pub(crate) generated: Generated,
 }
 
 impl Session {
+    ghost use Rattle.edit_session.specs.SessionTrees.{shown_map, shown_counts, counts_told, steps_of, pending_steps};
+    ghost use Rattle.edit_session.specs.SessionParts.{pending_over};
+    ghost use Rattle.edit_session.specs.Sessions.{OpensSession, Prepares, Commits};
+
     /// Opens a session on what stands in the folder.
     pub fn open<F: Folder, L: Ledger>(
         alloc: Global,
@@ -61,12 +69,18 @@ impl Session {
         let mut known = Known::new(alloc);
         match generate_over(alloc, folder, &mut known, &config, steps) {
             Err(stop) => Err(stop),
-            Ok(generated) => Ok(Session {
-                known,
-                config,
-                generated,
-                pending: None,
-            }),
+            Ok(generated) => {
+                let spare = Over::new(alloc);
+                let changed = Vec::new(alloc);
+                Ok(Session {
+                    known,
+                    config,
+                    generated,
+                    pending: None,
+                    spare,
+                    changed,
+                })
+            }
         }
     }
 
@@ -82,107 +96,82 @@ impl Session {
         ensures prepares { Prepares (F.state folder.old) self.old edit.now result (F.state folder.new) self.new }
         ensures steps { TakesSteps result (λ done. pending_steps self.new) steps.old steps.new }
     {
-        self.pending = None;
-        match self.next(alloc, edit, folder, steps) {
-            Err(stop) => Err(stop),
-            Ok(pending) => {
-                self.pending = Some(pending);
+        let mut looks = self.take_looks(alloc);
+        match next(alloc, &mut looks, &mut self.config, edit, folder, steps) {
+            Err(stop) => {
+                self.put_back(looks);
+                Err(stop)
+            }
+            Ok(made) => {
+                self.put_pending(looks, made);
                 Ok(())
             }
         }
     }
 
-    // What an edit makes of the session.
-    fn next<F: Folder, L: Ledger>(
-        &mut self,
-        alloc: Global,
-        edit: &Edit,
-        folder: &mut F,
-        steps: &mut Steps<L>,
-    ) -> Result<Pending, EditStop>
-        ensures makes { MakesNext (F.state folder.old) self.old edit.now result (F.state folder.new) self.new }
-        ensures steps { TakesSteps result (λ pending. steps_of pending.generated) steps.old steps.new }
+    // The looks, to be changed by an edit; nothing is pending then.
+    fn take_looks(&mut self, alloc: Global) -> Looks
+        ensures known { result.known ≡ self.old.known }
+        ensures config { self.new.config ≡ self.old.config }
+        ensures generated { self.new.generated ≡ self.old.generated }
+        ensures pending { self.new.pending ≡ None }
     {
-        match self.draft(alloc) {
-            Err(_) => Err(EditStop::Memory),
-            Ok((over, entries)) => self.make(alloc, over, entries, edit, folder, steps),
+        let spare = mem::replace(&mut self.spare, Over::new(alloc));
+        let known = mem::replace(&mut self.known, Known::new(alloc));
+        let changed = mem::replace(&mut self.changed, Vec::new(alloc));
+        match self.pending.take() {
+            None => Looks {
+                known,
+                over: spare,
+                changed,
+            },
+            Some(pending) => {
+                let Pending { over, .. } = pending;
+                Looks {
+                    known,
+                    over,
+                    changed,
+                }
+            }
         }
     }
 
-    // The laid looks and the entries, to be changed.
-    fn draft(&self, alloc: Global) -> Result<(Over, Entries), Memory>
-        ensures over { IfOk result (λ draft. (path : List ℕ)
-            → over_at draft.0 path ≡ over_at self.now.known.laid path) }
-        ensures entries { IfOk result (λ draft. draft.1 ≡ self.now.config.entries) }
+    fn put_back(&mut self, looks: Looks)
+        requires { self.old.pending ≡ None }
+        ensures known { self.new.known ≡ looks.known }
+        ensures config { self.new.config ≡ self.old.config }
+        ensures generated { self.new.generated ≡ self.old.generated }
+        ensures pending { self.new.pending ≡ None }
     {
-        let over = self.known.laid().copy(alloc)?;
-        let entries = Entries::of(alloc, &self.config)?;
-        Ok((over, entries))
-    }
-
-    // What an edit makes of the session, whose laid looks and entries these are.
-    fn make<F: Folder, L: Ledger>(
-        &mut self,
-        alloc: Global,
-        over: Over,
-        entries: Entries,
-        edit: &Edit,
-        folder: &mut F,
-        steps: &mut Steps<L>,
-    ) -> Result<Pending, EditStop>
-        requires over { (path : List ℕ) → over_at over path ≡ over_at self.old.known.laid path }
-        requires entries { entries ≡ self.old.config.entries }
-        ensures makes { MakesNext (F.state folder.old) self.old edit.now result (F.state folder.new) self.new }
-        ensures steps { TakesSteps result (λ pending. steps_of pending.generated) steps.old steps.new }
-    {
-        let mut over = over;
-        let mut entries = entries;
-        let known = &mut self.known;
-        match make_all(
-            alloc,
+        let Looks {
             known,
-            &mut over,
-            &mut entries,
-            folder,
-            edit.as_slice(),
-        ) {
-            Err(stop) => Err(EditStop::of_change(stop)),
-            Ok(()) => self.generate(alloc, over, entries, folder, steps),
-        }
+            over,
+            changed,
+        } = looks;
+        self.known = known;
+        self.spare = over;
+        self.changed = changed;
     }
 
-    // The same, where the changes are made.
-    fn generate<F: Folder, L: Ledger>(
-        &mut self,
-        alloc: Global,
-        over: Over,
-        entries: Entries,
-        folder: &mut F,
-        steps: &mut Steps<L>,
-    ) -> Result<Pending, EditStop>
-        ensures generates { GeneratesNext (F.state folder.old) self.old over entries result
-            (F.state folder.new) self.new }
-        ensures steps { TakesSteps result (λ pending. steps_of pending.generated) steps.old steps.new }
+    fn put_pending(&mut self, looks: Looks, made: Made)
+        ensures known { self.new.known ≡ looks.known }
+        ensures config { self.new.config ≡ self.old.config }
+        ensures generated { self.new.generated ≡ self.old.generated }
+        ensures pending { self.new.pending ≡ Some (pending_over looks.over made) }
     {
-        let mut over = over;
-        let mut entries = entries;
-        let made = try_map(
-            alloc,
-            &mut self.known,
-            &mut self.config,
-            &mut over,
-            &mut entries,
-            folder,
-            steps,
-        );
-        match made {
-            Err(stop) => Err(EditStop::of_map(stop)),
-            Ok(generated) => Ok(Pending {
-                over,
-                entries,
-                generated,
-            }),
-        }
+        let Looks {
+            known,
+            over,
+            changed,
+        } = looks;
+        let Made { entries, generated } = made;
+        self.known = known;
+        self.changed = changed;
+        self.pending = Some(Pending {
+            over,
+            entries,
+            generated,
+        });
     }
 
     /// Makes what is pending the state of the session.
@@ -191,23 +180,14 @@ impl Session {
         ensures { Commits self.old self.new }
     {
         if let Some(pending) = self.pending.take() {
-            self.step(pending);
+            step(
+                &mut self.known,
+                &mut self.config,
+                &mut self.generated,
+                &mut self.spare,
+                pending,
+            );
         }
-    }
-
-    fn step(&mut self, pending: Pending)
-        ensures { IsStep self.old pending self.new }
-    {
-        let Pending {
-            over,
-            entries,
-            generated,
-        } = pending;
-        let mut over = over;
-        let mut entries = entries;
-        self.known.lay(&mut over);
-        entries.exchange(&mut self.config);
-        self.generated = generated;
     }
 
     /// Whether an edit is prepared.

@@ -140,6 +140,7 @@ module _ (words : List (List ℕ)) (to : List ℕ) (config : Config) (before mid
   refuses_by tree why of (here.copies map generates refuses) = refuses_run.by_copies to config map why asks_to of generates refuses
 
   can_be : (why : Refusal) → IsRefusalOf config Vendor why ⊎ IsCopyRefusal to why → CanRefuse words why
+  unfolding can_copy
   can_be why kind = elim kind [
     | inl of_command ↦ can_refuse.by_tree Vendor config why is_config.can of_command
     | inr of_copies ↦ can_refuse.by_copies can_copy why of_copies
@@ -163,7 +164,7 @@ module _ (words : List (List ℕ)) (to : List ℕ) (config : Config) (before mid
     line = vendored_line (length copies.plan)
 
     same_count : length copies.plan ≡ length (pairs copies.known copies.plan)
-    same_count = sym (length-map _ copies.plan)
+    same_count = sym (length-map copies.plan _)
 
     quiet : middle.look_faults ≡ before.look_faults
     quiet = is.looks.quiet (λ e. e)
@@ -200,6 +201,7 @@ module _ (words : List (List ℕ)) (to : List ℕ) (config : Config) (before mid
         )
 
     done_told : (held told : Option Tree) → IfSome held (λ tree. IsConfigOf words tree Vendor config) → IfSome held (λ tree. IsReadyTo to config tree copies.known copies.plan) → IfSome held (λ tree. AreWritten tree these told) → IfSome held (λ tree. IsDone words tree told)
+    unfolding vendors
     done_told None told of ready written = tt
     done_told (Some tree) told of ready written =
         let own = as_copies tree told written in
@@ -222,7 +224,7 @@ module _ (words : List (List ℕ)) (to : List ℕ) (config : Config) (before mid
           pairs = pairs copies.known copies.plan;
           vendors = vendors tree of ready;
           count = own.count;
-          fewer = subst (λ n. own.count < n) (length-map _ (pairs copies.known copies.plan)) own.fewer;
+          fewer = subst (λ n. own.count < n) (length-map (pairs copies.known copies.plan) _) own.fewer;
           written = own.written;
         }
 

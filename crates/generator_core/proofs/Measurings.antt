@@ -48,6 +48,7 @@ few_asked asks.list = tt
 few_asked asks.inject = tt
 few_asked asks.session = tt
 few_asked (asks.why path is) = tt
+few_asked (asks.vendor path is) = tt
 few_asked (asks.measure number some few) = few
 
 pub few_packages : (words : List (List ℕ)) (number : ℕ) → AsksMeasure words number → number ≤ most_packages

@@ -15,7 +15,7 @@ use Rattle.config_spec.specs.declared.Command.{Command}
 use Rattle.config_spec.specs.declared.Command.TheVariants.{Refresh, Vendor, Why}
 use Rattle.config_spec.specs.declared.ConfigFault.{ConfigFault}
 use Rattle.config_spec.specs.declared.ProjectFault.{ProjectFault}
-use Rattle.config_spec.specs.Projects.{config_by, CanRefuseConfig, Configures, HasEntriesOf, IsConfigFor, IsConfigOf}
+use Rattle.config_spec.specs.Projects.{config_by, CanRefuseConfig, Configures, HasEntriesOf, IsConfigFor}
 use Rattle.config_spec.specs.Projects.{RefusesAsked, RefusesConfig}
 use Rattle.config_spec.specs.Projects.RefusesAsked.{bad_project, no_project, no_base, too_many_entries, not_linked}
 use Rattle.config_spec.specs.Words.{command_of, IsCommandOf, no_settings, options_of, Sets, Settings}

@@ -1,9 +1,10 @@
 -- How the files that a map needs come to be copied, step by step.
-use Rattle.std.proofs.Common.{◌≡◌, ◌≢◌, ◌≤◌, ◌<◌, ◌⊎◌, ◌+◌, ◌++◌, [], ◌∷◌, ℕ, List, length, map, take, Option, Some, None, Result, Ok, Err, IfSome, refl, sym, ap, ◌∙◌, subst, inl, inr, arith}
+use Rattle.std.proofs.Common.{◌≡◌, ◌≢◌, ◌≤◌, ◌<◌, ◌⊎◌, ◌++◌, [], ◌∷◌, ℕ, List, length, map, take, Option, Some, None, Result, Ok, Err, IfSome, refl, sym, ap, ◌∙◌, subst, inl, inr, arith}
 use Rattle.std.specs.FinMap.{get}
 use Rattle.std.specs.Prelude.{codes, option_map, Contains, true, false}
 use Rattle.tree_spec.proofs.ToldStates.{if_some, if_two, looks_as, looks_then}
 use Rattle.tree_spec.specs.Counts.{Rose}
+use Rattle.tree_spec.specs.LookAskings.{Sights, footprint as paths_of}
 use Rattle.tree_spec.specs.declared.Entry.TheVariants.{Directory, Stored}
 use Rattle.tree_spec.specs.declared.Look.{Look}
 use Rattle.tree_spec.specs.declared.Look.TheVariants as look
@@ -11,7 +12,8 @@ use Rattle.tree_spec.specs.declared.LookFault.TheVariants as look_fault
 use Rattle.tree_spec.specs.States.{FolderState, IsLooked, OnlyLooks}
 use Rattle.tree_spec.specs.Trees.{Tree, IsTree}
 use Rattle.trace_spec.specs.Modules.{Config}
-use Rattle.package_lookup.specs.Looked.{Sees}
+use Rattle.trace_spec.specs.Traces.{generation}
+use Rattle.package_lookup.specs.Looked.{Sees, look_in}
 use Rattle.package_lookup.specs.declared.known.Known.{Known}
 use Rattle.request_trace.specs.Footprints.{IsFootprint}
 use Rattle.vendor_spec.specs.Vendored.{Pair, IsPlan, Written, goals, nothing, one_more}
@@ -36,7 +38,7 @@ use Rattle.generator_spec.specs.Vendoring.{copied_files, IsCopyRefusal as kinds,
 use Rattle.generator_spec.specs.declared.Refusal.{Refusal}
 use Rattle.generator_spec.specs.declared.Refusal.TheVariants.{Occupied, PathTooLong, TooManySegments}
 use Rattle.generator_core.specs.declared.vendoring.Copies.{Copies}
-use Rattle.generator_core.specs.Vendoring.{as_new, new_files, AreReady, AsksCopies, AsksCopies as asks, EndsCopies, IsFree}
+use Rattle.generator_core.specs.Vendoring.{as_new, new_files, AsksCopies, AsksCopies as asks, EndsCopies, IsFree}
 use Rattle.generator_core.specs.Vendoring.{IsReadyTo, PreparesCopies, RefusesHere, RefusesHere as here, StandsAt, StopsCopies, StopsCopies as stops, StopsPlan}
 use Rattle.generator_core.specs.Writing.{WritesFiles, WritesFiles as writes_files}
 use Rattle.generator_core.proofs.Preparings.{asks_few}
@@ -166,25 +168,32 @@ module _ (to : List ℕ) (config : Config) (before middle : FolderState) (known 
         fresh_sees : (tree : Tree) → Sees tree known (get tree)
         fresh_sees tree = sees_all tree known fresh
 
+        abbrev IsOfGeneration : Tree → Type 0
+        IsOfGeneration tree = (sights : Sights) → Sees tree known sights → footprint ≡ paths_of sights (generation config)
+
+        abbrev StaysSame : Tree → Type 0
+        StaysSame tree = (path : List ℕ) → look_in tree later path ≡ look_in tree known path
+
         of_tree : IfSome before.holds IsOfTree
-        of_tree =
-            if_two before.holds
-            (λ tree one two. record {
-              is_tree = one.0;
+        of_tree = by before.holds told maps (subst (λ held. IfSome held (λ tree. get tree to ≡ None)) fine.tree free.free) of.is over.learns.same
+          where
+            by :
+                (held : Option Tree) → IfSome held IsTree → IfSome held (λ tree. Generates tree config found.map.items)
+                → IfSome held (λ tree. get tree to ≡ None) → IfSome held IsOfGeneration → IfSome held StaysSame
+                → IfSome held IsOfTree
+            by None is generates none of_sights same = tt
+            by (Some tree) is generates none of_sights same = record {
+              is_tree = is;
               keeps =
                   record {
                     none_laid = λ path. over.learns.known.laid path ∙ fresh.laid path;
-                    sees = record { each = λ path. (fresh_sees tree).each path ∙ sym (two.1 path) };
+                    sees = record { each = λ path. (fresh_sees tree).each path ∙ sym (same path) };
                     covered = of.kept;
                   };
-              same = two.0 (get tree) (fresh_sees tree);
-              generates = one.1;
-              nothing_there = one.2;
-            })
-            (if_two before.holds (λ tree is more. (is, more.0, more.1)) told
-            (if_two before.holds (λ tree generates none. (generates, none)) maps
-            (subst (λ held. IfSome held (λ tree. get tree to ≡ None)) fine.tree free.free)))
-            (if_two before.holds (λ tree is same. (is, same)) of.is over.learns.same)
+              same = of_sights (get tree) (fresh_sees tree);
+              generates = generates;
+              nothing_there = none;
+            }
 
         abbrev refused_tree : Refusal → Type 0
         refused_tree why = IfSome before.holds (λ tree. RefusesHere to config tree why)

@@ -1,8 +1,8 @@
 -- What is promised of a run, by what its words ask for.
 --     IsIdle words      they ask neither for a command on a project nor for a session
 --     CommandEnds words before after out out_after result spent spent_after
---                       how a run of words ends that ask for no session, what it asks its folder for, and how many steps
---                       it takes
+--                       how a run of words ends that ask for no session, what it asks its folder for, and how many
+--                       steps it takes
 --     RunEnds words before after source later out out_after result spent spent_after
 --                       the same; and a session ends as sessions do
 use Rattle.std.specs.Prelude.{ℕ, List, IfSome}

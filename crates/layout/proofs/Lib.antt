@@ -1,5 +1,6 @@
 mod Choosing
 mod Counts
+mod Fits
 mod Grouping
 mod LaidGroups
 pub mod Ordered

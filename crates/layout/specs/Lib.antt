@@ -1,6 +1,7 @@
 pub mod Choices
 pub mod Costs
 pub mod Counting
+pub mod Fits
 pub mod Grouped
 pub mod Groups
 pub mod Laid

@@ -6,8 +6,8 @@ ghost use Rattle.layout.specs.Laid.{laid_map};
 ghost use Rattle.layout.specs.Settled.{settled_rows};
 ghost use Rattle.place_nodes.specs.Nodes.{AreNodes, places_of};
 
-use crate::costs::Costs;
 use crate::laid::Laid;
+use crate::penalty::Penalties;
 use place_nodes::{Node, node_at};
 use shared_types::{Memory, Text};
 use std::alloc::Global;
@@ -20,7 +20,7 @@ pub(crate) fn choose(
     targets: &[Text],
     own: usize,
     nodes: &[Node],
-    rows: Vec<Costs>,
+    rows: Vec<Penalties>,
 ) -> Result<(), Memory>
     ensures { OnOk result ((wish : Wish) → IsAskedFor wish asked.now targets.now own → AreNodes wish nodes.now
         → rows.items ≡ reverse (settled_rows wish (places_of nodes.now))
@@ -33,7 +33,7 @@ pub(crate) fn choose(
             break;
         };
         let from = number_from(values.as_slice(), node.above, own);
-        let choice = choice_at(row.as_slice(), from);
+        let choice = row.choice_at(from);
         let value = lay_at(alloc, laid, asked, targets, &node.place, choice, from)?;
         values.push(value)?;
     }
@@ -50,31 +50,6 @@ fn number_from(values: &[usize], above: Option<usize>, own: usize) -> usize
             Some(value) => *value,
         },
     }
-}
-
-fn choice_at(row: &[usize], from: usize) -> Option<usize>
-    ensures { result ≡ definition.choice_at row.now from }
-{
-    match row.get(from) {
-        None => None,
-        Some(0) => None,
-        Some(_) => Some(first_free(row)),
-    }
-}
-
-fn first_free(row: &[usize]) -> usize
-    ensures { result ≡ definition.first_free row.now }
-{
-    let mut number = 0;
-    let mut left = row;
-    while let Some((penalty, more)) = left.split_first() {
-        if *penalty == 0 {
-            return number;
-        }
-        number += 1;
-        left = more;
-    }
-    number
 }
 
 fn lay_at(

@@ -9,6 +9,7 @@ mod fewest;
 mod group;
 mod laid;
 mod one;
+mod penalty;
 mod settle;
 mod some;
 

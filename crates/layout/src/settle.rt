@@ -4,23 +4,24 @@ ghost use Rattle.layout.specs.Costs.{IsCharged};
 ghost use Rattle.layout.specs.Settled.{settled_rows};
 ghost use Rattle.place_nodes.specs.Nodes.{AreNodes, places_of};
 
-use crate::costs::{Costs, penalties, sum};
+use crate::costs::Costs;
+use crate::penalty::Penalties;
 use place_nodes::{Node, node_at};
 use shared_types::Memory;
 use std::alloc::Global;
 
 /// The penalties of each place, the last place's first. Each is settled after all that are below it.
-pub(crate) fn settled(alloc: Global, nodes: &[Node], width: usize) -> Result<Vec<Costs>, Memory>
+pub(crate) fn settled(alloc: Global, nodes: &[Node], width: usize) -> Result<Vec<Penalties>, Memory>
     ensures { IfOk result (λ rows. (wish : Wish) → AreNodes wish nodes.now → length wish.targets ≡ width
         → rows.items ≡ reverse (settled_rows wish (places_of nodes.now))) }
 {
-    let mut rows = Vec::new(alloc);
+    let mut rows = Vec::with_capacity(alloc, nodes.len())?;
     let mut open = nothing(alloc, nodes.len(), width)?;
     while let Some(costs) = open.pop() {
         let Some(node) = node_at(nodes, open.len()) else {
             break;
         };
-        let row = penalties(alloc, &costs, node.own)?;
+        let row = costs.penalties(alloc, node.own)?;
         charge(alloc, &mut open, node.above, &row)?;
         rows.push(row)?;
     }
@@ -33,19 +34,9 @@ fn nothing(alloc: Global, count: usize, width: usize) -> Result<Vec<Costs>, Memo
 {
     let mut rows = Vec::with_capacity(alloc, count)?;
     for index in 0..count {
-        rows.push(free(alloc, width)?)?;
+        rows.push(Costs::free(alloc, width))?;
     }
     Ok(rows)
-}
-
-fn free(alloc: Global, width: usize) -> Result<Costs, Memory>
-    ensures { IfOk result (λ costs. costs ≡ replicate width 0) }
-{
-    let mut costs = Costs::from_vec(Vec::with_capacity(alloc, width)?);
-    for index in 0..width {
-        costs.push(0)?;
-    }
-    Ok(costs)
 }
 
 // The place above, where there is one, pays for one below it.
@@ -53,17 +44,15 @@ fn charge(
     alloc: Global,
     open: &mut Vec<Costs>,
     above: Option<usize>,
-    row: &Costs,
+    row: &Penalties,
 ) -> Result<(), Memory>
     ensures { OnOk result (IsCharged open.old.items above row.now open.new.items) }
 {
     let Some(number) = above else {
         return Ok(());
     };
-    let Some(costs) = open.get(number) else {
+    let Some(costs) = open.get_mut(number) else {
         return Ok(());
     };
-    let both = sum(alloc, costs, row)?;
-    open[number] = both;
-    Ok(())
+    costs.charge(alloc, row)
 }

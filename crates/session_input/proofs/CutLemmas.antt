@@ -1,5 +1,5 @@
 -- Texts cut at the first and at the last of a byte.
-use Rattle.std.proofs.Common.{◌≡◌, ◌≢◌, ◌≤◌, ◌<◌, ◌==◌, ◌+◌, ◌-◌, ◌++◌, ◌∷◌, [], ℕ, List, length, get_or, Bool, true, false, Option, Some, None, refl, sym, ap, ◌∙◌, arith}
+use Rattle.std.proofs.Common.{◌≡◌, ◌≢◌, ◌≤◌, ◌<◌, ◌==◌, ◌+◌, ◌++◌, ◌∷◌, [], ℕ, List, length, get_or, Bool, true, false, Option, Some, None, refl, sym, ap, ◌∙◌, arith}
 use Rattle.std.proofs.lemmas.Bool.{eq-eqb, ne_eqb}
 use Rattle.std.proofs.lemmas.List.{append-nil, take-append-drop, take_more, drop_more, drop_all, take_all, length-take-le, drop-drop}
 use Rattle.std.proofs.Math.Seq.{take-append-add}
@@ -144,4 +144,24 @@ ends_same text at less e =
     let none = no_end x e in
     omega (arith, more, none)
 
+-- a piece more is counted
+pub ends_on : (all rest piece more : List ℕ) (ends few : ℕ) → rest ≡ piece ++ more → few ≡ line_ends piece
+    → line_ends rest + ends ≡ line_ends all → line_ends more + (ends + few) ≡ line_ends all
+ends_on all rest piece more ends few is same whole =
+    let both = ap line_ends is ∙ line_ends-append piece more in
+    omega (arith, same, whole, both)
+
+one_or_none : (here : Bool) → (if here then 1 else 0) ≤ 1
+one_or_none true = omega arith
+one_or_none false = omega arith
+
+pub few_ends : (text : List ℕ) → line_ends text ≤ length text
+few_ends [] = omega arith
+few_ends (x ∷ text) =
+    let ih = few_ends text in
+    let one = one_or_none (x == 10) in
+    omega (arith, ih, one)
+
 pub ruleset cutting = (first_more, first_at, first_none, last_none_more, last_at, last_none, ends_more, ends_same)
+
+pub ruleset counting = (few_ends)

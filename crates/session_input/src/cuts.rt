@@ -6,6 +6,9 @@ ghost use Rattle.session_input.specs.Cuts.{cut_of, cut_at, next_number};
 
 use tree_spec::MOST_FILE_BYTES;
 
+// As many bytes as a number of one byte counts, in whole vectors.
+const COUNTED_AT_ONCE: usize = 192;
+
 /// What stands behind a word, where the text begins with it.
 pub(crate) fn behind_word<'a>(word: &[u8], text: &'a [u8]) -> Option<&'a [u8]>
     ensures { option_map (λ rest. rest.now) result ≡ lines.behind_word word.now text.now }
@@ -102,14 +105,31 @@ fn next_number(front: usize, digit: u8) -> Option<usize>
     }
 }
 
-/// How many lines end within bytes.
-#[tactic(auto, using(crate::proofs::CutLemmas::cutting))]
+/// How many lines end within bytes. They are counted by pieces, each in a number of one byte, so that many bytes are
+/// compared at once.
+#[tactic(auto, using(crate::proofs::CutLemmas::counting))]
 pub(crate) fn line_ends(bytes: &[u8]) -> usize
     ensures ends { result ≡ lines.line_ends bytes.now }
     ensures most { result ≤ length bytes.now }
 {
     let mut ends = 0;
-    for byte in bytes {
+    let mut rest = bytes;
+    while !rest.is_empty() {
+        let (piece, more) = rest.split_at(rest.len().min(COUNTED_AT_ONCE));
+        ends += ends_within(piece) as usize;
+        rest = more;
+    }
+    ends
+}
+
+#[tactic(auto, using(crate::proofs::CutLemmas::cutting))]
+fn ends_within(piece: &[u8]) -> u8
+    requires { length piece.now ≤ 192 }
+    ensures ends { result ≡ lines.line_ends piece.now }
+    ensures most { result ≤ length piece.now }
+{
+    let mut ends = 0;
+    for byte in piece {
         if *byte == b'\n' {
             ends += 1;
         }

@@ -1,4 +1,4 @@
-ghost use Rattle.std.specs.Prelude.{◌≡◌, ◌≤◌, ◌<◌, ◌+◌, ◌-◌, None, length, take, drop, IfOk};
+ghost use Rattle.std.specs.Prelude.{◌≡◌, ◌≤◌, ◌<◌, ◌+◌, ◌-◌, None, length, take, drop, vec_len, IfOk};
 ghost use Rattle.tree_spec.specs.Limits.{limit_number};
 ghost use Rattle.tree_spec.specs.declared.LimitName.TheVariants.{Session};
 ghost use Rattle.session_spec.specs.SessionLines.{cut_first};
@@ -90,7 +90,7 @@ impl SessionInput {
         match self.at_hand(alloc) {
             Err(_) => Err(InputFault::Memory),
             Ok(Some(reading)) => Ok(Some(reading)),
-            Ok(None) => match self.take_more(alloc, input) {
+            Ok(None) => match self.take_more(input) {
                 Err(fault) => Err(fault),
                 Ok(Came::Nothing) => Ok(Some(Reading::Ended)),
                 Ok(Came::Beyond) => Ok(Some(Reading::TooLong)),
@@ -182,6 +182,9 @@ impl SessionInput {
     {
         let behind = &self.unread()[end + 1..];
         if behind.len() <= count {
+            let missing = count - behind.len();
+            self.held
+                .reserve(missing.saturating_add(MOST_TAKEN_AT_ONCE))?;
             return Ok(None);
         }
         if behind[count] != b'\n' {
@@ -207,7 +210,7 @@ impl SessionInput {
     }
 
     // Takes more of the input; behind all that may be read one byte, to know whether there is one.
-    fn take_more<I: Source>(&mut self, alloc: Global, input: &mut I) -> Result<Came, InputFault>
+    fn take_more<I: Source>(&mut self, input: &mut I) -> Result<Came, InputFault>
         ensures { Comes (waiting self.old) (waiting self.new) (I.state input.old) (I.state input.new) result }
     {
         if self.room == 0 {
@@ -219,35 +222,43 @@ impl SessionInput {
                 if count == 0 {
                     return Ok(Came::Nothing);
                 }
-                self.keep(alloc, count)?;
+                self.keep(count)?;
                 Ok(Came::Bytes)
             }
         }
     }
 
     // Puts the front of the piece behind the bytes that wait.
-    fn keep(&mut self, alloc: Global, count: usize) -> Result<(), Memory>
+    fn keep(&mut self, count: usize) -> Result<(), Memory>
         requires { (count ≤ length self.old.piece.items) × (count ≤ self.old.room) }
         ensures { IfOk result (λ _. Grows (waiting self.old) (take count self.old.piece.items) (waiting self.new)) }
     {
-        self.drop_read(alloc)?;
+        self.drop_read();
         self.held.extend_from_slice(&self.piece[..count])?;
         self.room -= count;
         Ok(())
     }
 
-    // What was read is kept no longer.
-    fn drop_read(&mut self, alloc: Global) -> Result<(), Memory>
-        ensures same { IfOk result (λ _. waiting self.new ≡ waiting self.old) }
+    // What was read is kept no longer; its room is used again.
+    fn drop_read(&mut self)
+        ensures same { waiting self.new ≡ waiting self.old }
         ensures piece { self.new.piece ≡ self.old.piece }
         ensures room { self.new.room ≡ self.old.room }
     {
         if self.start == 0 {
-            return Ok(());
+            return;
         }
-        let held = Vec::from_slice(alloc, &self.held[self.start..])?;
-        self.held = held;
+        remove_front(&mut self.held, self.start);
         self.start = 0;
-        Ok(())
     }
+}
+
+fn remove_front(held: &mut Vec<u8>, count: usize)
+    requires { count ≤ vec_len held.old }
+    ensures items { held.new.items ≡ drop count held.old.items }
+    ensures len { vec_len held.new ≡ vec_len held.old - count }
+{
+    let len = held.len();
+    held.as_mut_slice().copy_within(count..len, 0);
+    held.truncate(len - count);
 }

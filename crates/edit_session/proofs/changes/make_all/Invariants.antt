@@ -5,8 +5,8 @@ use Rattle.edit_session.proofs.changes.make_all.Given as goal
 
 abbrev pub invariant-loop-change : goal.invariant-loop-change
 invariant-loop-change g l =
-    Completes l.fn.edit (work (g.F.Folder.state l.fn.folder) l.fn.known l.fn.over l.fn.entries) l.rest
-    (work (g.F.Folder.state l.folder) l.known l.over l.entries)
+    Completes l.fn.edit (work (g.F.Folder.state l.fn.folder) l.fn.looks.known l.fn.looks.over l.fn.entries) l.rest
+    (work (g.F.Folder.state l.folder) l.looks.known l.looks.over l.entries)
 
 abbrev pub decreases-loop-change : goal.decreases-loop-change
 decreases-loop-change g l = length l.rest

@@ -37,5 +37,5 @@ returns-in-List g c = runs_as _ _ _ _ _ _ _ _ _ _ c.in-List.is c.list.ensures
 pub unreachable-requires : goal.unreachable-requires
 unreachable-requires g c = c.requires.explains c.in-Why.is
 
-pub unreachable-in-Vendor-requires : goal.unreachable-in-Vendor-requires
-unreachable-in-Vendor-requires g c = c.requires.vendors c.in-Vendor.is
+pub unreachable-requires-in-Vendor : goal.unreachable-requires-in-Vendor
+unreachable-requires-in-Vendor g c = c.requires.vendors c.in-Vendor.is

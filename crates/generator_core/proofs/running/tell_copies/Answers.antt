@@ -1,5 +1,4 @@
 use Rattle.std.proofs.Common.{subst}
-use Rattle.generator_spec.specs.Commands.{SaysCounts}
 use Rattle.generator_core.specs.Vendoring.{PreparesCopies}
 use Rattle.generator_core.proofs.CopiesTold.{copies_end, copies_stop, still_asked}
 use Rattle.generator_core.proofs.running.tell_copies.Goals as goal
@@ -28,7 +27,7 @@ returns-in-Err g c =
     let is = subst (λ r. PreparesCopies c.args.to.now c.args.config.now (g.F.Folder.state c.args.folder.now) r (g.F.Folder.state c.prepare_copies.new.folder))
     c.in-Err.is c.prepare_copies.ensures.prepares in
     record {
-      end = λ words asks is_config. copies_stop words c.args.to.now c.args.config.now _ _ _ _ _ asks is_config c.in-Err.stop is.stopped c.close.ensures.tells c.close.ensures.later;
+      end = λ words asks is_config. copies_stop words c.args.to.now c.args.config.now _ (g.F.Folder.state c.args.folder.now) _ _ _ _ asks is_config c.in-Err.stop is.stopped c.close.ensures.tells c.close.ensures.later;
       asked = is.asked;
       spends = record { told = λ none. absurd none; bounded = c.prepare_copies.ensures.bounded };
     }

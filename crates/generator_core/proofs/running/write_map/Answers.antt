@@ -7,7 +7,7 @@ use Rattle.generator_spec.specs.Commands.{IsGenerating}
 use Rattle.generator_core.specs.Preparing.{Prepares}
 use Rattle.generator_core.specs.Spending.{CommandSpends}
 use Rattle.generator_core.proofs.Endings.{stop_end, write_end, stop_spends, done_spends, order_spends}
-use Rattle.generator_core.proofs.Preparings.{counts, generates, still_few}
+use Rattle.generator_core.proofs.Preparings.{counts, still_few}
 use Rattle.generator_core.proofs.running.write_map.Goals as goal
 
 -- what a command that generates may take, any command may

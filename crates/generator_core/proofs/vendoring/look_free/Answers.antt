@@ -1,4 +1,4 @@
-use Rattle.generator_core.proofs.Vendorings.{file_there, folder_there, free_there, large_there, look_failed, look_lacks}
+use Rattle.generator_core.proofs.Vendorings.{folder_there, free_there, large_there}
 use Rattle.generator_core.proofs.vendoring.look_free.Goals as goal
 
 pub returns-in-Ok-Absent : goal.returns-in-Ok-Absent

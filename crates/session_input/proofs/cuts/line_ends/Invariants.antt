@@ -1,7 +1,9 @@
-use Rattle.std.proofs.Common.{◌≡◌, ◌≤◌}
-use Rattle.std.specs.Prelude.{take}
+use Rattle.std.proofs.Common.{◌≡◌, ◌+◌, length}
 use Rattle.session_spec.specs.SessionLines.{line_ends}
 use Rattle.session_input.proofs.cuts.line_ends.Given as goal
 
-abbrev pub invariant-loop-byte : goal.invariant-loop-byte
-invariant-loop-byte l = (l.ends ≤ l.byte-index) × (l.ends ≡ line_ends (take l.byte-index l.bytes))
+abbrev pub invariant-loop-rest : goal.invariant-loop-rest
+invariant-loop-rest l = line_ends l.rest + l.ends ≡ line_ends l.fn.bytes
+
+abbrev pub decreases-loop-rest : goal.decreases-loop-rest
+decreases-loop-rest l = length l.rest

@@ -1,12 +1,23 @@
+use Rattle.std.proofs.Common.{◌∙◌}
+use Rattle.edit_session.specs.SessionParts.{parts, pending_over}
 use Rattle.edit_session.proofs.SessionCalls.{not_prepared, prepared}
 use Rattle.edit_session.proofs.session.Session.prepare.Goals as goal
 
 pub returns-in-Err-clause-prepares : goal.returns-in-Err-clause-prepares
 returns-in-Err-clause-prepares g c =
-    not_prepared (g.F.Folder.state c.args.folder.now) (g.F.Folder.state c.next.new.folder) c.args.self.now c.next.new.self c.args.edit.now c.in-Err.stop
-    (rw c.in-Err.is at c.next.ensures.makes)
+    not_prepared (g.F.Folder.state c.args.folder.now) (g.F.Folder.state c.next.new.folder) c.args.self.now
+    (parts c.next.new.looks.known c.next.new.config c.args.self.now.generated) c.args.edit.now c.put_back.new.self
+    c.put_back.ensures.known c.put_back.ensures.config
+    (c.put_back.ensures.generated ∙ c.take_looks-looks.ensures.generated) c.in-Err.stop c.put_back.ensures.pending
+    (rw (c.in-Err.is, c.take_looks-looks.ensures.known, c.take_looks-looks.ensures.config)
+    at (c.next.ensures.makes c.args.self.now.generated))
 
 pub returns-in-Ok-clause-prepares : goal.returns-in-Ok-clause-prepares
 returns-in-Ok-clause-prepares g c =
-    prepared (g.F.Folder.state c.args.folder.now) (g.F.Folder.state c.next.new.folder) c.args.self.now c.next.new.self c.args.edit.now c.in-Ok.pending
-    (rw c.in-Ok.is at c.next.ensures.makes)
+    prepared (g.F.Folder.state c.args.folder.now) (g.F.Folder.state c.next.new.folder) c.args.self.now
+    (parts c.next.new.looks.known c.next.new.config c.args.self.now.generated) c.args.edit.now c.put_pending.new.self
+    c.put_pending.ensures.known c.put_pending.ensures.config
+    (c.put_pending.ensures.generated ∙ c.take_looks-looks.ensures.generated)
+    (pending_over c.next.new.looks.over c.in-Ok.made) c.put_pending.ensures.pending
+    (rw (c.in-Ok.is, c.take_looks-looks.ensures.known, c.take_looks-looks.ensures.config)
+    at (c.next.ensures.makes c.args.self.now.generated))

@@ -1,0 +1,17 @@
+-- Looks that are those that are laid, but at some paths.
+--     AgreeBut changed laid over      at each path but these there is the same
+--     next_over spare pending         the looks for the next edit
+use Rattle.std.specs.Prelude.{◌≡◌, ℕ, List, Option, Some, None, false, bytes_eq}
+use Rattle.std.specs.List.{list_any}
+use Rattle.package_lookup.specs.declared.over.Over.{Over}
+use Rattle.package_lookup.specs.Looked.{over_at}
+use Rattle.edit_session.specs.declared.session.Pending.{Pending}
+
+abbrev pub AgreeBut : List (List ℕ) → Over → Over → Type 0
+AgreeBut changed laid over =
+    (path : List ℕ) → list_any (bytes_eq path) changed ≡ false → over_at over path ≡ over_at laid path
+
+-- own: the spare ones, unless what is pending has them
+abbrev pub next_over : Over → Option Pending → Over
+next_over spare None = spare
+next_over spare (Some pending) = pending.over

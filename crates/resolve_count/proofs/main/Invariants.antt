@@ -1,4 +1,0 @@
-use Rattle.resolve_count.proofs.main.Given as goal
-
-abbrev pub ghosts-resolve_file : goal.ghosts-resolve_file
-ghosts-resolve_file a = record { name = a.blank.name; parts = a.blank.parts }
