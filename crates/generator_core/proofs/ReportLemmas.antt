@@ -22,6 +22,7 @@ use Rattle.map_check.specs.Shown.{shown}
 use Rattle.generation.specs.declared.stop.Stop.{Stop}
 use Rattle.generation.specs.declared.stop.Stop.TheVariants.{Memory}
 use Rattle.generator_core.specs.declared.checking.Report.{Report}
+use Rattle.generator_core.specs.Strictness.{AreLined, IsStrictStop, IsStrictStop as strict_stop}
 use Rattle.generator_core.specs.Checking.{AsksGrammar, AsksGrammar as asks, IsReportOf, IsLined, IsTold, IsToldStrictly, IsReport, IsReportStop, IsReportStop as report_stop, Reports}
 
 abbrev pub lines_of : Gathered → List Difference → List (List ℕ)
@@ -50,6 +51,9 @@ lines_are map all ds found = same_lines all ds ∙ ap (λ some. each (difference
 pub next_joined : (lines : List (List ℕ)) (number : ℕ) (line whole old new : List ℕ) → whole ≡ old ++ concat (drop number lines) → slice_get lines number ≡ Some line → new ≡ old ++ line → whole ≡ new ++ concat (drop (number + 1) lines)
 next_joined lines number line whole old new invariant here pushed =
     invariant ∙ (ap (λ xs. old ++ concat xs) (drop_at lines number line here) ∙ (sym (append_assoc old line (concat (drop (number + 1) lines))) ∙ ap (λ text. text ++ concat (drop (number + 1) lines)) (sym pushed)))
+
+pub all_joined : (lines : List (List ℕ)) (number : ℕ) (whole text : List ℕ) → whole ≡ text ++ concat (drop number lines) → drop number lines ≡ [] → text ≡ whole
+all_joined lines number whole text invariant done = sym (append-nil text) ∙ (sym (ap (λ xs. text ++ concat xs) done) ∙ sym invariant)
 
 -- ---- the report
 
@@ -88,6 +92,11 @@ strict_few (m ∷ modules) (answer ∷ answers) =
       | inl none ↦ omega (arith, both, more, none)
       | inr one ↦ omega (arith, both, more, one)
     ]
+
+-- the lines of the modules stand behind those of the needs, and all is said
+pub told_strictly : (all : Gathered) (lines new : List (List ℕ)) (result : Result Report Stop) → AreLined all lines new → length all.modules ≤ limit_number Modules → IsTold (length all.needs) new result → IsToldStrictly all lines result
+told_strictly all lines new (Ok report) lined few told = record { told = record { new = new; lined = lined; is = told.told }; stopped = tt; few = few }
+told_strictly all lines new (Err stop) lined few told = record { told = tt; stopped = subst (IsStrictStop all) (sym told.stopped) strict_stop.memory; few = few }
 
 pub reports_memory : (map : ParsedMap) (all : Gathered) (command : Command) → Reports command map all (Err Memory)
 reports_memory map all command = record { reported = tt; stopped = report_stop.memory command }
