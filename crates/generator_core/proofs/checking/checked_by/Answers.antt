@@ -11,8 +11,8 @@ returns-in-Err-clause-checks g c = λ holds command asks.
     let after = g.F.Folder.state c.traced.new.folder in
     trace_stops c.args.config.now before after c.args.parsed.now holds command (asks_checking command c.args.strictly asks) c.in-Err.stop (subst (λ (r : Result Traced Stop). Tracing c.args.config.now before (gathered_of r) after) c.in-Err.is c.traced.ensures.traces)
 
-pub returns-clause-checks : goal.returns-clause-checks
-returns-clause-checks g c = λ holds command asks.
+pub returns-in-Ok-clause-checks : goal.returns-in-Ok-clause-checks
+returns-in-Ok-clause-checks g c = λ holds command asks.
     let before = g.F.Folder.state c.args.folder.now in
     let after = g.F.Folder.state c.traced.new.folder in
     report_told c.args.config.now before after c.args.parsed.now holds command (asks_checking command c.args.strictly asks) c.in-Ok.trace.gathered (subst (λ (r : Result Traced Stop). Tracing c.args.config.now before (gathered_of r) after) c.in-Ok.is c.traced.ensures.traces) c.report_of.result (c.report_of.ensures.reports command asks)

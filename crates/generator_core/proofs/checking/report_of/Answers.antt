@@ -6,12 +6,12 @@ use Rattle.generator_core.proofs.checking.report_of.Goals as goal
 pub returns-in-Err-clause-reports : goal.returns-in-Err-clause-reports
 returns-in-Err-clause-reports g c = λ command asks. reports_memory c.args.parsed.now c.args.trace.now.gathered command
 
-pub returns-in-Ok-clause-reports : goal.returns-in-Ok-clause-reports
-returns-in-Ok-clause-reports g c = λ command asks.
+pub returns-then-strictly-clause-reports : goal.returns-then-strictly-clause-reports
+returns-then-strictly-clause-reports g c = λ command asks.
     reports_strictly c.args.parsed.now c.args.trace.now.gathered c.in-Ok.lines c.reported_strictly.result c.in-Ok.ensures c.reported_strictly.ensures.reports command
     (subst (AsksGrammar command) c.if-strictly.true asks)
 
-pub returns-in-Ok-2-clause-reports : goal.returns-in-Ok-2-clause-reports
-returns-in-Ok-2-clause-reports g c = λ command asks.
+pub returns-else-strictly-clause-reports : goal.returns-else-strictly-clause-reports
+returns-else-strictly-clause-reports g c = λ command asks.
     reports_plainly c.args.parsed.now c.args.trace.now.gathered c.in-Ok.lines c.reported.result c.in-Ok.ensures c.reported.ensures command
     (subst (AsksGrammar command) c.if-strictly.false asks)

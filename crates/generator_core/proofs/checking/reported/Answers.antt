@@ -7,6 +7,6 @@ returns-in-Err c = record { told = tt; stopped = refl }
 
 pub returns-in-Ok : goal.returns-in-Ok
 returns-in-Ok c = record {
-  told = subst (λ n. IsReportOf n c.args.lines.now c.in-Ok.report) (c.len.ensures ∙ ap length c.needs.ensures.needs) c.in-Ok.ensures;
+  told = subst (λ n. IsReportOf n c.args.lines.now c.in-Ok.report) (c.len.ensures.len ∙ ap length c.needs.ensures.needs) c.in-Ok.ensures;
   stopped = tt;
 }

@@ -19,15 +19,9 @@ returns-in-Err-clause-cost g c =
     let cost = c.push_strict.ensures.cost in
     omega (arith, few, cost)
 
-pub returns-in-Ok-clause-reports : goal.returns-in-Ok-clause-reports
-returns-in-Ok-clause-reports g c =
+pub returns-clause-reports : goal.returns-clause-reports
+returns-clause-reports g c =
     let all = c.args.trace.now.gathered in
     told_strictly all c.args.lines c.push_strict.new.lines c.reported.result
     (subst (λ r. OnOk r (AreLined all c.args.lines c.push_strict.new.lines)) c.in-Ok.is c.push_strict.ensures.pushes.pushed)
     c.push_strict.ensures.few c.reported.ensures
-
-pub returns-in-Ok-clause-cost : goal.returns-in-Ok-clause-cost
-returns-in-Ok-clause-cost g c =
-    let few = c.push_strict.ensures.few in
-    let cost = c.push_strict.ensures.cost in
-    omega (arith, few, cost)
