@@ -1,6 +1,6 @@
 -- What a check says, line by line.
-use Rattle.std.proofs.Common.{◌≡◌, ◌≤◌, ◌⊎◌, ℕ, suc, ◌+◌, true, false, inl, inr, List, [], ◌∷◌, ◌++◌, length, Result, Ok, Err, refl, sym, ap, ◌∙◌, append_assoc, subst, arith}
-use Rattle.std.specs.Prelude.{map as each, drop, slice_get, IfOk, IfErr, Some}
+use Rattle.std.proofs.Common.{◌≡◌, ◌≤◌, ◌⊎◌, ℕ, ◌+◌, true, false, inl, inr, List, [], ◌∷◌, ◌++◌, length, Result, Ok, Err, refl, sym, ap, ◌∙◌, append_assoc, subst, arith}
+use Rattle.std.specs.Prelude.{map as each, drop, slice_get, Some}
 use Rattle.std.specs.List.{concat}
 use Rattle.std.proofs.lemmas.List.{append-nil, length-append}
 use Rattle.std.proofs.lemmas.List.Folds.{concat-append}
@@ -23,7 +23,7 @@ use Rattle.generation.specs.declared.stop.Stop.{Stop}
 use Rattle.generation.specs.declared.stop.Stop.TheVariants.{Memory}
 use Rattle.generator_core.specs.declared.checking.Report.{Report}
 use Rattle.generator_core.specs.Strictness.{AreLined, IsStrictStop, IsStrictStop as strict_stop}
-use Rattle.generator_core.specs.Checking.{AsksGrammar, AsksGrammar as asks, IsReportOf, IsLined, IsTold, IsToldStrictly, IsReport, IsReportStop, IsReportStop as report_stop, Reports}
+use Rattle.generator_core.specs.Checking.{AsksGrammar, AsksGrammar as asks, IsReportOf, IsTold, IsToldStrictly, IsReportStop, IsReportStop as report_stop, Reports}
 
 abbrev pub lines_of : Gathered → List Difference → List (List ℕ)
 lines_of all ds = each (λ (d : Difference). difference_line all (shown d)) ds

@@ -1,4 +1,4 @@
-use Rattle.std.proofs.Common.{Result, ◌≤◌, subst, arith}
+use Rattle.std.proofs.Common.{Result, subst}
 use Rattle.request_trace.specs.Showing.{Traced, gathered_of}
 use Rattle.generation.specs.declared.stop.Stop.{Stop}
 use Rattle.generation.specs.Generating.{Tracing}

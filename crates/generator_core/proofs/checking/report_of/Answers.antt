@@ -1,5 +1,5 @@
-use Rattle.std.proofs.Common.{◌≡◌, ap, subst, sym, ◌∙◌}
-use Rattle.generator_core.specs.Checking.{AsksGrammar, Reports}
+use Rattle.std.proofs.Common.{subst}
+use Rattle.generator_core.specs.Checking.{AsksGrammar}
 use Rattle.generator_core.proofs.ReportLemmas.{reports_plainly, reports_strictly, reports_memory}
 use Rattle.generator_core.proofs.checking.report_of.Goals as goal
 
