@@ -71,6 +71,7 @@ fn push_command(command: &Command<'_>, said: &mut Said) {
         Command::Unlink(entries) => push_unlink(entries, said),
         Command::Refresh => said.push("refresh"),
         Command::Check => said.push("check"),
+        Command::CheckStrictly => said.push("check --strict"),
         Command::List => said.push("list"),
         Command::Inject => said.push("inject"),
         Command::Session => said.push("session"),

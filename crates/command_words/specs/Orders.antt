@@ -17,9 +17,9 @@ use Rattle.config_spec.specs.Words.{Settings, Sets, no_settings, command_of, opt
 use Rattle.config_spec.specs.Words.{IsSession}
 use Rattle.project_spec.specs.ProjectFiles.{IsPagePath}
 use Rattle.words_spec.specs.PlainWords.{Asked, Asks, LinkOptions, linking, unlinking, refreshing, checking, listing}
-use Rattle.words_spec.specs.PlainWords.{injecting, editing, explaining, vendoring, measuring}
+use Rattle.words_spec.specs.PlainWords.{checking_strictly, injecting, editing, explaining, vendoring, measuring}
 use Rattle.command_words.specs.declared.order.Order.{Order}
-use Rattle.command_words.specs.declared.order.Order.TheVariants.{Link, Unlink, Refresh, Check, Inject}
+use Rattle.command_words.specs.declared.order.Order.TheVariants.{Link, Unlink, Refresh, Check, CheckStrictly, Inject}
 use Rattle.command_words.specs.declared.order.Order.TheVariants as order
 use Rattle.command_words.specs.declared.order.Wanted.{Wanted}
 use Rattle.command_words.specs.declared.order.Wanted.TheVariants as wanted
@@ -29,6 +29,7 @@ command_ordered (Link settings entries) = command.Link
 command_ordered (Unlink entries) = command.Unlink
 command_ordered Refresh = command.Refresh
 command_ordered Check = command.Check
+command_ordered CheckStrictly = command.CheckStrictly
 command_ordered order.List = command.List
 command_ordered Inject = command.Inject
 
@@ -37,6 +38,7 @@ settings_ordered (Link settings entries) = settings
 settings_ordered (Unlink entries) = no_settings
 settings_ordered Refresh = no_settings
 settings_ordered Check = no_settings
+settings_ordered CheckStrictly = no_settings
 settings_ordered order.List = no_settings
 settings_ordered Inject = no_settings
 
@@ -46,6 +48,7 @@ asked_with options (Link settings entries) = linking options (map string_bytes e
 asked_with options (Unlink entries) = unlinking (map string_bytes entries.now)
 asked_with options Refresh = refreshing
 asked_with options Check = checking
+asked_with options CheckStrictly = checking_strictly
 asked_with options order.List = listing
 asked_with options Inject = injecting
 

@@ -27,6 +27,8 @@ pub enum Order<'a> {
     Refresh,
     /// Which needs the map that is there doesn't serve.
     Check,
+    /// The same, and which modules the statement grammar and the outline don't say the same of.
+    CheckStrictly,
     /// The modules, each with the number of its requests.
     List,
     /// The page, with the map in it.
@@ -43,6 +45,7 @@ impl<'a> Order<'a> {
             Order::Unlink { .. } => Command::Unlink,
             Order::Refresh => Command::Refresh,
             Order::Check => Command::Check,
+            Order::CheckStrictly => Command::CheckStrictly,
             Order::List => Command::List,
             Order::Inject => Command::Inject,
         }
@@ -85,6 +88,7 @@ fn order_parsed<'a>(alloc: Global, parsed: Parsed<'a>) -> Result<Wanted<'a>, Wor
         Parsed::Unlink(entries) => Ok(Wanted::Order(Order::Unlink { entries })),
         Parsed::Refresh => Ok(Wanted::Order(Order::Refresh)),
         Parsed::Check => Ok(Wanted::Order(Order::Check)),
+        Parsed::CheckStrictly => Ok(Wanted::Order(Order::CheckStrictly)),
         Parsed::Inject => Ok(Wanted::Order(Order::Inject)),
         Parsed::List => Ok(Wanted::Order(Order::List)),
         Parsed::Session => Ok(Wanted::Session),

@@ -20,7 +20,7 @@ use Rattle.url_spec.specs.Bases.{IsBase}
 use Rattle.node_spec.specs.Conditions.{AreConditions}
 use Rattle.trace_spec.specs.Modules.{Config}
 use Rattle.words_spec.specs.PlainWords.{Asked, Asks, LinkOptions, no_options, linking, unlinking, refreshing, checking}
-use Rattle.words_spec.specs.PlainWords.{listing, injecting, editing, explaining, vendoring, measuring}
+use Rattle.words_spec.specs.PlainWords.{checking_strictly, listing, injecting, editing, explaining, vendoring, measuring}
 use Rattle.project_spec.proofs.ReadBack.{read_projects}
 use Rattle.project_spec.specs.ProjectFiles as project
 use Rattle.project_spec.specs.ProjectFiles.{IsPagePath, IsProject, ReadsProject}
@@ -314,6 +314,8 @@ comes_in refreshing settings found result sets fits is =
     taken_comes refreshing settings Ok found result sets fits (same_fits refreshing result tt) is
 comes_in checking settings found result sets fits is =
     taken_comes checking settings Ok found result sets fits (same_fits checking result tt) is
+comes_in checking_strictly settings found result sets fits is =
+    taken_comes checking_strictly settings Ok found result sets fits (same_fits checking_strictly result tt) is
 comes_in listing settings found result sets fits is =
     taken_comes listing settings Ok found result sets fits (same_fits listing result tt) is
 comes_in injecting settings found result sets fits is =

@@ -15,7 +15,7 @@ use Rattle.tree_spec.specs.declared.LimitName.TheVariants.{Entries}
 use Rattle.tree_spec.proofs.FootprintSets.{distinct_none}
 use Rattle.trace_spec.specs.Modules.{Config}
 use Rattle.words_spec.specs.PlainWords.{Asked, Asks, LinkOptions, linking, unlinking, refreshing, checking}
-use Rattle.words_spec.specs.PlainWords.{listing, injecting, editing, explaining, vendoring, measuring}
+use Rattle.words_spec.specs.PlainWords.{checking_strictly, listing, injecting, editing, explaining, vendoring, measuring}
 use Rattle.project_spec.specs.ProjectFiles as project
 use Rattle.project_spec.specs.ProjectFiles.{BadFile, Gives, PassesLimit, ReadsProject, reads_project, many_entries}
 use Rattle.project_spec.specs.ProjectFiles.{no_project, no_json, deep_json}
@@ -169,6 +169,8 @@ refuses_in refreshing settings found fault sets is =
     there_refuses refreshing Ok found fault (λ options others e. absurd (cc)) (never_refuses refreshing fault) is
 refuses_in checking settings found fault sets is =
     there_refuses checking Ok found fault (λ options others e. absurd (cc)) (never_refuses checking fault) is
+refuses_in checking_strictly settings found fault sets is =
+    there_refuses checking_strictly Ok found fault (λ options others e. absurd (cc)) (never_refuses checking_strictly fault) is
 refuses_in listing settings found fault sets is =
     there_refuses listing Ok found fault (λ options others e. absurd (cc)) (never_refuses listing fault) is
 refuses_in injecting settings found fault sets is =

@@ -10,7 +10,7 @@ use Rattle.project_spec.specs.ProjectFiles.{IsPagePath}
 use Rattle.words_spec.proofs.PlainIsRead.{one_asked, plain_is_read}
 use Rattle.words_spec.proofs.ReadIsPlain.{read_is_plain}
 use Rattle.words_spec.specs.PlainWords.{Asked, Asks, linking, unlinking, refreshing, checking, listing, injecting}
-use Rattle.words_spec.specs.PlainWords.{editing, explaining, vendoring, measuring}
+use Rattle.words_spec.specs.PlainWords.{checking_strictly, editing, explaining, vendoring, measuring}
 use Rattle.words_spec.specs.Reading.{reading_of}
 use Rattle.config_spec.proofs.Options.{one_options_fault, set_or_fault, set_or_refused}
 use Rattle.config_spec.specs.Laws.{WordsAreJudged}
@@ -86,6 +86,7 @@ why_explains (linking options entries) e = absurd (cc)
 why_explains (unlinking entries) e = absurd (cc)
 why_explains refreshing e = absurd (cc)
 why_explains checking e = absurd (cc)
+why_explains checking_strictly e = absurd (cc)
 why_explains listing e = absurd (cc)
 why_explains injecting e = absurd (cc)
 why_explains editing e = absurd (cc)
@@ -103,6 +104,7 @@ vendor_copies (linking options entries) e = absurd (cc)
 vendor_copies (unlinking entries) e = absurd (cc)
 vendor_copies refreshing e = absurd (cc)
 vendor_copies checking e = absurd (cc)
+vendor_copies checking_strictly e = absurd (cc)
 vendor_copies listing e = absurd (cc)
 vendor_copies injecting e = absurd (cc)
 vendor_copies editing e = absurd (cc)
@@ -237,6 +239,7 @@ without_command words (linking options entries) asks e = absurd (cc)
 without_command words (unlinking entries) asks e = absurd (cc)
 without_command words refreshing asks e = absurd (cc)
 without_command words checking asks e = absurd (cc)
+without_command words checking_strictly asks e = absurd (cc)
 without_command words listing asks e = absurd (cc)
 without_command words injecting asks e = absurd (cc)
 without_command words editing asks e = inr (inr (inr asks))

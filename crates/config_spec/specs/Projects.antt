@@ -33,7 +33,8 @@ use Rattle.project_spec.specs.ProjectFiles as project
 use Rattle.project_spec.specs.ProjectFiles.{IsProject, ReadsProject}
 use Rattle.trace_spec.specs.Modules.{Config}
 use Rattle.words_spec.specs.PlainWords.{Asked, Asks, LinkOptions, linking, unlinking, refreshing, checking}
-use Rattle.words_spec.specs.PlainWords.{listing, injecting, editing, explaining, vendoring, measuring}
+use Rattle.words_spec.specs.PlainWords.{checking_strictly, listing, injecting, editing, explaining, vendoring}
+use Rattle.words_spec.specs.PlainWords.{measuring}
 use Rattle.config_spec.specs.declared.Command.{Command}
 use Rattle.config_spec.specs.declared.ProjectFault.{ProjectFault}
 use Rattle.config_spec.specs.declared.ProjectFault.TheVariants.{Absent, TooLarge, NotProject, Above}
@@ -133,6 +134,7 @@ config_in (linking options entries) settings found = linked settings entries fou
 config_in (unlinking entries) settings found = if_there found (unlinked entries)
 config_in refreshing settings found = if_there found Ok
 config_in checking settings found = if_there found Ok
+config_in checking_strictly settings found = if_there found Ok
 config_in listing settings found = if_there found Ok
 config_in injecting settings found = if_there found Ok
 config_in editing settings found = if_there found Ok
@@ -176,6 +178,7 @@ HasEntriesOf (linking options named) entries = All (Contains entries) named
 HasEntriesOf (unlinking named) entries = AreTaken named entries
 HasEntriesOf refreshing entries = Unit {0}
 HasEntriesOf checking entries = Unit {0}
+HasEntriesOf checking_strictly entries = Unit {0}
 HasEntriesOf listing entries = Unit {0}
 HasEntriesOf injecting entries = Unit {0}
 HasEntriesOf editing entries = Unit {0}

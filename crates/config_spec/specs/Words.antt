@@ -20,9 +20,11 @@ use Rattle.url_spec.specs.PathTests.{is_path}
 use Rattle.node_spec.specs.Conditions.{AreConditions, names_in}
 use Rattle.project_spec.specs.ProjectFiles.{IsPagePath}
 use Rattle.words_spec.specs.PlainWords.{Asked, Asks, LinkOptions, no_options, linking, unlinking, refreshing, checking}
-use Rattle.words_spec.specs.PlainWords.{listing, injecting, editing, explaining, vendoring, measuring}
+use Rattle.words_spec.specs.PlainWords.{checking_strictly, listing, injecting, editing, explaining, vendoring}
+use Rattle.words_spec.specs.PlainWords.{measuring}
 use Rattle.config_spec.specs.declared.Command.{Command}
-use Rattle.config_spec.specs.declared.Command.TheVariants.{Link, Unlink, Refresh, Inject, Check, Why, Vendor}
+use Rattle.config_spec.specs.declared.Command.TheVariants.{Link, Unlink, Refresh, Inject, Check, CheckStrictly, Why}
+use Rattle.config_spec.specs.declared.Command.TheVariants.{Vendor}
 use Rattle.config_spec.specs.declared.Command.TheVariants.{List as Lists}
 use Rattle.config_spec.specs.declared.ConfigFault.{ConfigFault}
 use Rattle.config_spec.specs.declared.ConfigFault.TheVariants.{BadBase, BadPath, BadConditions}
@@ -38,6 +40,7 @@ command_of (linking options entries) = Some Link
 command_of (unlinking entries) = Some Unlink
 command_of refreshing = Some Refresh
 command_of checking = Some Check
+command_of checking_strictly = Some CheckStrictly
 command_of injecting = Some Inject
 command_of listing = Some Lists
 command_of editing = None
@@ -50,6 +53,7 @@ options_of (linking options entries) = options
 options_of (unlinking entries) = no_options
 options_of refreshing = no_options
 options_of checking = no_options
+options_of checking_strictly = no_options
 options_of injecting = no_options
 options_of listing = no_options
 options_of editing = no_options

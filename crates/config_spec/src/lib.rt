@@ -23,6 +23,8 @@ pub enum Command {
     Inject,
     /// Which needs the map that is there doesn't serve.
     Check,
+    /// The same, and which modules the statement grammar and the outline don't say the same of.
+    CheckStrictly,
     /// The modules, each with the number of its requests.
     List,
     /// The shortest chain of requests that leads from the page to a file.

@@ -1,12 +1,14 @@
 -- How a check comes to its report, step by step.
 use Rattle.std.proofs.Common.{◌≡◌, ◌≢◌, ◌≤◌, ℕ, suc, Bool, true, false, List, [], ◌∷◌, length, Option, Some, None, Ok, Err, IfSome, Result, refl, sym, ap, ◌∙◌, subst, inl, arith}
 use Rattle.std.specs.FinMap.{get}
-use Rattle.std.specs.Prelude.{map as each, All, Contains, unwrap_or, if◌then◌else◌}
-use Rattle.std.proofs.lemmas.List.Elements.{All-nil, All-cons}
+use Rattle.std.specs.Prelude.{◌++◌, map as each, slice_get, All, Contains, unwrap_or, if◌then◌else◌}
+use Rattle.std.proofs.lemmas.List.Elements.{All-nil, All-cons, All-append}
 use Rattle.std.proofs.lemmas.List.{append-nil, length-map}
 use Rattle.tree_spec.specs.declared.Look.{Look}
 use Rattle.tree_spec.specs.declared.Look.TheVariants as look
 use Rattle.tree_spec.specs.declared.LookFault.TheVariants as look_fault
+use Rattle.tree_spec.specs.declared.LimitName.TheVariants.{Modules}
+use Rattle.tree_spec.specs.Limits.{limit_number}
 use Rattle.tree_spec.specs.States.{FolderState, SinkState, OnlyLooks, IsLooked}
 use Rattle.tree_spec.specs.Trees.{Tree}
 use Rattle.tree_spec.proofs.ToldStates.{if_some, if_two, looks_as, looks_then}
@@ -15,24 +17,30 @@ use Rattle.import_map_spec.specs.Parsing.{ParsesMap}
 use Rattle.import_map_spec.specs.Resolving.{Resolved}
 use Rattle.check_spec.proofs.DifferenceLemmas.{differences_are_exact}
 use Rattle.check_spec.specs.Differences.{Difference, gets, is_url, differences, differences_from}
+use Rattle.grammar_spec.specs.declared.answer.Strict.{Strict}
+use Rattle.grammar_spec.specs.declared.answer.Strict.TheVariants.{Agrees, Syntax, Differs, TooDeep}
 use Rattle.layout_spec.proofs.Contained.{contains_here, contains_there}
 use Rattle.layout_spec.specs.declared.Need.{Need}
 use Rattle.trace_spec.specs.declared.TraceFault.TheVariants.{Unservable}
 use Rattle.trace_spec.specs.Checks.{Gathered}
 use Rattle.trace_spec.specs.Kinds.{IsOfTrace}
-use Rattle.trace_spec.specs.Modules.{Config, path_of, shown, served_name, web_name}
+use Rattle.trace_spec.specs.Modules.{Config, Module, path_of, shown, served_name, web_name}
+use Rattle.trace_spec.specs.Questions.{Source}
 use Rattle.trace_spec.specs.Walking.{the_page}
 use Rattle.generator_spec.proofs.Nameless.{nameless_is_refused}
-use Rattle.config_spec.specs.declared.Command.TheVariants.{Check}
+use Rattle.generator_spec.proofs.Strictnesses.{some_answers}
+use Rattle.generator_spec.specs.Strictness.{IsSaid}
+use Rattle.config_spec.specs.declared.Command.{Command}
+use Rattle.config_spec.specs.declared.Command.TheVariants.{CheckStrictly}
 use Rattle.generator_spec.specs.declared.MapFileFault.{MapFileFault}
 use Rattle.generator_spec.specs.declared.MapFileFault.TheVariants as map_fault
-use Rattle.generator_spec.specs.declared.Refusal.TheVariants.{MapFile}
-use Rattle.generator_spec.specs.Checking.{no_need, need_at, spelling_at, difference_line, difference_lines, check_lines}
+use Rattle.generator_spec.specs.declared.Refusal.TheVariants.{MapFile, NestedTooDeep}
+use Rattle.generator_spec.specs.Checking.{no_need, need_at, spelling_at, difference_line, difference_lines, SaysOfModules, SaysOfModules as of_modules, strict_line, strict_lines, check_lines}
 use Rattle.generator_spec.specs.Commands.{map_path, map_file_limit, map_file_fault, IsMapText, ReadsMap, HoldsMap, RefusesMapFile, RefusesMapFile as refuses_map}
-use Rattle.generator_spec.specs.Commands.{Opens as opens, Refuses as refuses, IsRefusalOf as kind}
+use Rattle.generator_spec.specs.Commands.{IsChecking, IsChecking as checking, Opens as opens, Refuses, Refuses as refuses, IsRefusalOf as kind}
 use Rattle.config_spec.specs.Projects.{IsConfigOf}
 use Rattle.generator_spec.specs.Outcome.{ComesTo as comes, Outcome}
-use Rattle.generator_spec.specs.Ending.{IsDifference, IsDone, IsDone as done, Says, Ends, EndsAs, Shaped as shaped, Says as says}
+use Rattle.generator_spec.specs.Ending.{IsDifference, IsStrictLine, IsStrictLine as lined, AreStrictLines, AreStrictLines as are, IsDone, IsDone as done, Says, Ends, EndsAs, Shaped as shaped, Says as says}
 use Rattle.generator_spec.specs.Asked.{IsConfigAt}
 use Rattle.generation.specs.declared.stop.Stop.{Stop}
 use Rattle.generation.specs.declared.stop.Stop.TheVariants.{Refused, ReadFault, Memory}
@@ -40,18 +48,24 @@ use Rattle.generation.specs.Generating.{Tracing}
 use Rattle.generator_core.specs.declared.checking.Report.{Report}
 use Rattle.generator_spec.specs.Asked.{AsksOwn}
 use Rattle.generator_core.specs.Preparing.{EndsBefore}
-use Rattle.generator_core.specs.Checking.{IsMapTextFound, FindsMapText, IsMapStop, FindsMap, IsReport, IsHeldAndTraced, IsReported, ChecksBy, Checks}
-use Rattle.generator_core.specs.Checking.{IsMapStop as map_stop}
+use Rattle.generator_core.specs.Checking.{AsksGrammar, AsksGrammar as asks, IsMapTextFound, FindsMapText, IsMapStop, FindsMap, IsReport, IsReportOf, IsReportStop, Reports}
+use Rattle.generator_core.specs.Checking.{IsHeldAndTraced, IsReported, ChecksBy, Checks, IsMapStop as map_stop, IsReportStop as report_stop}
+use Rattle.generator_core.specs.Strictness.{IsStrictStop, IsStrictStop as strict_stop}
+use Rattle.generator_core.proofs.Strictnesses.{nested_somewhere}
 use Rattle.generator_core.proofs.Preparings.{earlier_end, own_asked, own_alone, own_then}
 use Rattle.generator_core.proofs.Endings.{ends_as, serves_where_done}
 
 -- ---- the look at the map's file
 
-module _ (config : Config) (before after : FolderState) where
-  map_ends : (why : MapFileFault) → OnlyLooks before after ⊥ → IfSome before.holds (λ tree. RefusesMapFile tree config why) → EndsBefore Check config before after (Refused (MapFile why))
+pub asks_checking : (command : Command) (strictly : Bool) → AsksGrammar command strictly → IsChecking command
+asks_checking command strictly asks.plainly = checking.plainly
+asks_checking command strictly asks.strictly = checking.strictly
+
+module _ (command : Command) (checks : IsChecking command) (config : Config) (before after : FolderState) where
+  map_ends : (why : MapFileFault) → OnlyLooks before after ⊥ → IfSome before.holds (λ tree. RefusesMapFile tree config why) → EndsBefore command config before after (Refused (MapFile why))
   map_ends why looks why_not = record {
-    refused = if_some before.holds (λ tree so. refuses.map_file why so) why_not;
-    kind = kind.map_file why;
+    refused = if_some before.holds (λ tree so. refuses.map_file command why checks so) why_not;
+    kind = kind.map_file command why checks;
     looks = looks_as before after (λ e. absurd (cc)) (λ e. absurd e) looks;
   }
 
@@ -60,7 +74,7 @@ module _ (path : List ℕ) (is_path : path ≡ map_path) (before after : FolderS
   only_looked found is = record { tree = is.tree; writes = is.writes; later = is.later; cause = λ e. absurd e; quiet = λ e. is.quiet (λ same. cc) }
 
   no_text : (found : Look) (why : MapFileFault) → IsLooked before path map_file_limit (Ok found) after → ((config : Config) → IfSome before.holds (λ tree. RefusesMapFile tree config why)) → FindsMapText before (Err (Refused (MapFile why))) after
-  no_text found why is why_not = record { found = tt; asked = own_asked map_path path true before.asked after is_path is.asked; stopped = λ config. map_ends config before after why (only_looked found is) (why_not config) }
+  no_text found why is why_not = record { found = tt; asked = own_asked map_path path true before.asked after is_path is.asked; stopped = λ command checks config. map_ends command checks config before after why (only_looked found is) (why_not config) }
 
   text_absent : IsLooked before path map_file_limit (Ok look.Absent) after → FindsMapText before (Err (Refused (MapFile map_fault.Absent))) after
   text_absent is = no_text look.Absent map_fault.Absent is (λ config. if_some before.holds (λ tree e. refuses_map.absent (ap (get tree) (sym is_path) ∙ e) refl) is.entry)
@@ -85,7 +99,7 @@ module _ (path : List ℕ) (is_path : path ≡ map_path) (before after : FolderS
   text_fault is = record {
     found = tt;
     asked = own_asked map_path path false before.asked after is_path is.asked;
-    stopped = λ config. record {
+    stopped = λ command checks config. record {
       refused = tt;
       kind = tt;
       looks = record { tree = is.tree; writes = is.writes; later = is.later; cause = λ e. is.failed refl; quiet = λ none. absurd (none refl) };
@@ -96,7 +110,7 @@ module _ (path : List ℕ) (is_path : path ≡ map_path) (before after : FolderS
   text_memory is = record {
     found = tt;
     asked = own_asked map_path path false before.asked after is_path is.asked;
-    stopped = λ config. record {
+    stopped = λ command checks config. record {
       refused = tt;
       kind = tt;
       looks = record { tree = is.tree; writes = is.writes; later = is.later; cause = λ e. absurd (cc); quiet = λ none. is.quiet (λ same. cc) };
@@ -120,7 +134,7 @@ pub text_unasked : (state : FolderState) → FindsMapText state (Err Memory) sta
 text_unasked state = record {
   found = tt;
   asked = by state.asked refl;
-  stopped = λ config. record {
+  stopped = λ command checks config. record {
     refused = tt;
     kind = tt;
     looks = record { tree = refl; writes = refl; later = omega arith; cause = λ e. absurd (cc); quiet = λ none. refl };
@@ -145,25 +159,25 @@ module _ (config : Config) (before after : FolderState) where
   opens_map : (text : List ℕ) (parsed : ParsedMap) → IfSome before.holds (λ tree. IsMapText tree text) → ReadsMap config text (Ok parsed) → IfSome before.holds (λ tree. HoldsMap tree config parsed)
   opens_map text parsed is reads = if_some before.holds (λ tree stands. record { text = text; stands = stands; reads = reads }) is
 
-  no_stop : (stop : Stop) (other : Stop) → stop ≡ other → EndsBefore Check config before after other → EndsBefore Check config before after stop
-  no_stop stop other same is = subst (λ s. EndsBefore Check config before after s) (sym same) is
+  no_stop : (command : Command) (stop : Stop) (other : Stop) → stop ≡ other → EndsBefore command config before after other → EndsBefore command config before after stop
+  no_stop command stop other same is = subst (λ s. EndsBefore command config before after s) (sym same) is
 
   -- the text of a found file is no map
-  pub stops_map : (text : List ℕ) (stop : Stop) → IsMapTextFound before after text → IsMapStop config text stop → EndsBefore Check config before after stop
-  stops_map text stop found (map_stop.no_map fault reads same) =
-      no_stop stop _ same (map_ends config before after (map_file_fault fault) found.looks
+  pub stops_map : (command : Command) → IsChecking command → (text : List ℕ) (stop : Stop) → IsMapTextFound before after text → IsMapStop config text stop → EndsBefore command config before after stop
+  stops_map command checks text stop found (map_stop.no_map fault reads same) =
+      no_stop command stop _ same (map_ends command checks config before after (map_file_fault fault) found.looks
       (if_some before.holds (λ tree stands. refuses_map.no_map text fault stands reads refl) found.is_text))
-  stops_map text stop found (map_stop.no_base none same) =
-      no_stop stop _ same (record {
-        refused = if_some before.holds (λ tree stands. refuses.trace Check (Unservable (shown config the_page) None) (opens.no_base text stands none) (nameless_is_refused (get tree) config none)) found.is_text;
-        kind = kind.trace Check (Unservable (shown config the_page) None) (kind_of_nameless config none);
+  stops_map command checks text stop found (map_stop.no_base none same) =
+      no_stop command stop _ same (record {
+        refused = if_some before.holds (λ tree stands. refuses.trace command (Unservable (shown config the_page) None) (opens.no_base command checks text stands none) (nameless_is_refused (get tree) config none)) found.is_text;
+        kind = kind.trace command (Unservable (shown config the_page) None) (kind_of_nameless config none);
         looks = looks_as before after (λ e. absurd (cc)) (λ e. absurd e) found.looks;
       })
-  stops_map text stop found (map_stop.memory same) =
-      no_stop stop _ same (record { refused = tt; kind = tt; looks = looks_as before after (λ e. absurd (cc)) (λ e. absurd e) found.looks })
+  stops_map command checks text stop found (map_stop.memory same) =
+      no_stop command stop _ same (record { refused = tt; kind = tt; looks = looks_as before after (λ e. absurd (cc)) (λ e. absurd e) found.looks })
 
-module _ (config : Config) (before middle after : FolderState) where
-  earlier_report : (report : Report) → OnlyLooks before middle ⊥ → IsReported config middle after report → IsReported config before after report
+module _ (command : Command) (config : Config) (before middle after : FolderState) where
+  earlier_report : (report : Report) → OnlyLooks before middle ⊥ → IsReported command config middle after report → IsReported command config before after report
   earlier_report report looks is = record {
     map = is.map;
     all = is.all;
@@ -172,32 +186,32 @@ module _ (config : Config) (before middle after : FolderState) where
     looks = looks_then before middle after (λ e. e) looks is.looks;
   }
 
-  pub checks_behind : (text : List ℕ) (result : Result Report Stop) → FindsMapText before (Ok text) middle → ChecksBy config middle result after → Checks config before result after
+  pub checks_behind : (text : List ℕ) (result : Result Report Stop) → FindsMapText before (Ok text) middle → ChecksBy command config middle result after → Checks command config before result after
   checks_behind text (Ok report) found is = record { reported = earlier_report report found.found.looks is.reported; asked = own_then config before.holds middle.holds (map_path ∷ []) before.asked middle after found.found.looks.tree found.asked is.asked is.footprint; stopped = tt }
-  checks_behind text (Err stop) found is = record { reported = tt; asked = own_then config before.holds middle.holds (map_path ∷ []) before.asked middle after found.found.looks.tree found.asked is.asked is.footprint; stopped = earlier_end config before middle after Check stop found.found.looks is.stopped }
+  checks_behind text (Err stop) found is = record { reported = tt; asked = own_then config before.holds middle.holds (map_path ∷ []) before.asked middle after found.found.looks.tree found.asked is.asked is.footprint; stopped = earlier_end config before middle after command stop found.found.looks is.stopped }
 
 module _ (config : Config) (before after : FolderState) where
   -- the map's file is where it was
   pub text_still : (text : List ℕ) (parsed : ParsedMap) → FindsMapText before (Ok text) after → ReadsMap config text (Ok parsed) → IfSome after.holds (λ tree. HoldsMap tree config parsed)
   text_still text parsed found reads = subst (λ held. IfSome held (λ tree. HoldsMap tree config parsed)) (sym found.found.looks.tree) (opens_map config before after text parsed found.found.is_text reads)
 
-  pub text_refused : (stop : Stop) → FindsMapText before (Err stop) after → Checks config before (Err stop) after
-  text_refused stop found = record { reported = tt; asked = own_alone config before.holds (map_path ∷ []) before.asked after found.asked; stopped = found.stopped config }
+  pub text_refused : (command : Command) → IsChecking command → (stop : Stop) → FindsMapText before (Err stop) after → Checks command config before (Err stop) after
+  text_refused command checks stop found = record { reported = tt; asked = own_alone config before.holds (map_path ∷ []) before.asked after found.asked; stopped = found.stopped command checks config }
 
-  pub map_refused : (text : List ℕ) (stop : Stop) → FindsMapText before (Ok text) after → IsMapStop config text stop → Checks config before (Err stop) after
-  map_refused text stop found why = record { reported = tt; asked = own_alone config before.holds (map_path ∷ []) before.asked after found.asked; stopped = stops_map config before after text stop found.found why }
+  pub map_refused : (command : Command) → IsChecking command → (text : List ℕ) (stop : Stop) → FindsMapText before (Ok text) after → IsMapStop config text stop → Checks command config before (Err stop) after
+  map_refused command checks text stop found why = record { reported = tt; asked = own_alone config before.holds (map_path ∷ []) before.asked after found.asked; stopped = stops_map config before after command checks text stop found.found why }
 
   -- ---- the trace
 
-  module _ (parsed : ParsedMap) (holds : IfSome before.holds (λ tree. HoldsMap tree config parsed)) where
-    pub trace_stops : (stop : Stop) → Tracing config before (Err stop) after → ChecksBy config before (Err stop) after
+  module _ (parsed : ParsedMap) (holds : IfSome before.holds (λ tree. HoldsMap tree config parsed)) (command : Command) (checks : IsChecking command) where
+    pub trace_stops : (stop : Stop) → Tracing config before (Err stop) after → ChecksBy command config before (Err stop) after
     trace_stops (Refused why) is = record {
       reported = tt;
       asked = is.asked;
       footprint = is.footprint;
       stopped = record {
-        refused = if_two before.holds (λ tree held refuses_each. refuses_each Check (opens.has_map parsed held)) holds is.refused;
-        kind = is.kind Check;
+        refused = if_two before.holds (λ tree held refuses_each. refuses_each command (opens.has_map command checks parsed held)) holds is.refused;
+        kind = is.kind command;
         looks = looks_as before after (λ e. absurd (cc)) (λ e. absurd (cc)) is.looks;
       };
     }
@@ -208,10 +222,28 @@ module _ (config : Config) (before after : FolderState) where
       quiet_looks : OnlyLooks before after ⊥
       quiet_looks = looks_as before after (λ e. absurd e) (λ e. absurd (cc)) is.looks
 
-      pub no_report : ChecksBy config before (Err Memory) after
-      no_report = record { reported = tt; asked = is.asked; footprint = is.footprint; stopped = record { refused = tt; kind = tt; looks = looks_as before after (λ e. absurd (cc)) (λ e. absurd e) quiet_looks } }
+      no_memory : (asked : Command) → EndsBefore asked config before after Memory
+      no_memory asked = record { refused = tt; kind = tt; looks = looks_as before after (λ e. absurd (cc)) (λ e. absurd e) quiet_looks }
 
-      pub reports : (report : Report) → IsReport parsed all report → ChecksBy config before (Ok report) after
+      -- a module is nested too deep
+      nested_stop : (place : ℕ) (source : Source) → slice_get all.sources place ≡ Some source → IsSaid source.bytes TooDeep → EndsBefore CheckStrictly config before after (Refused NestedTooDeep)
+      nested_stop place source there deep = record {
+        refused = if_two before.holds (λ tree held traces.
+            let found = some_answers (get tree) config all traces in
+            refuses.nested parsed all found.0 held traces found.1 (nested_somewhere all.sources found.0 place source found.1 there deep)) holds is.traces;
+        kind = kind.nested;
+        looks = looks_as before after (λ e. absurd (cc)) (λ e. absurd e) quiet_looks;
+      }
+
+      strict_stops : (stop : Stop) → IsStrictStop all stop → EndsBefore CheckStrictly config before after stop
+      strict_stops stop (strict_stop.nested place source there deep) = nested_stop place source there deep
+      strict_stops stop strict_stop.memory = no_memory CheckStrictly
+
+      stops_report : (stop : Stop) (asked : Command) → IsReportStop all asked stop → EndsBefore asked config before after stop
+      stops_report stop asked (report_stop.by_modules _ why) = strict_stops stop why
+      stops_report stop asked (report_stop.memory _) = no_memory asked
+
+      reports : (report : Report) → IsReport command parsed all report → ChecksBy command config before (Ok report) after
       reports report is_report = record {
         reported = record {
           map = parsed;
@@ -224,6 +256,10 @@ module _ (config : Config) (before after : FolderState) where
         footprint = is.footprint;
         stopped = tt;
       }
+
+      pub report_told : (result : Result Report Stop) → Reports command parsed all result → ChecksBy command config before result after
+      report_told (Ok report) told = reports report told.reported
+      report_told (Err stop) told = record { reported = tt; asked = is.asked; footprint = is.footprint; stopped = stops_report stop command told.stopped }
 
 -- ---- the end
 
@@ -259,28 +295,61 @@ few_from map number (need ∷ more) = by (is_url (gets map need) need.target) (f
 few_differ : (map : ParsedMap) (all : Gathered) → length (difference_lines map all) ≤ length all.needs
 few_differ map all = subst (λ n. n ≤ length all.needs) (sym (length-map (differences map all.needs) (difference_line all))) (few_from map 0 all.needs)
 
-module _ (words : List (List ℕ)) (config : Config) (before after : FolderState) (out out_after : SinkState) (result : ℕ) (report : Report) (is_config : IsConfigAt words Check config before) (is : IsReported config before after report) where
-  abbrev lines : List (List ℕ)
-  lines = check_lines (length is.all.needs) (difference_lines is.map is.all)
+-- ---- the lines of the modules
 
-  outcome_told : (held told : Option Tree) → told ≡ held → IfSome held (λ tree. IsConfigOf words tree Check config) → IfSome held (λ tree. IsHeldAndTraced config tree is.map is.all)
+is_strict_line : (name : List ℕ) (answer : Strict) → All IsStrictLine (strict_line name answer)
+is_strict_line name Agrees = All-nil IsStrictLine
+is_strict_line name (Syntax at) = All-cons IsStrictLine _ [] (lined.by_syntax name at refl) (All-nil IsStrictLine)
+is_strict_line name (Differs found outline) = All-cons IsStrictLine _ [] (lined.by_requests name refl) (All-nil IsStrictLine)
+is_strict_line name TooDeep = All-nil IsStrictLine
+
+are_strict_lines : (modules : List Module) (answers : List Strict) → All IsStrictLine (strict_lines modules answers)
+are_strict_lines [] answers = All-nil IsStrictLine
+are_strict_lines (m ∷ modules) [] = All-nil IsStrictLine
+are_strict_lines (m ∷ modules) (answer ∷ answers) =
+    All-append IsStrictLine (strict_line (m.path ++ m.suffix) answer) (strict_lines modules answers) (is_strict_line (m.path ++ m.suffix) answer) (are_strict_lines modules answers)
+
+strict_shape : (all : Gathered) (command : Command) (strict : List (List ℕ)) → SaysOfModules all command strict → length strict ≤ limit_number Modules → AreStrictLines command strict
+strict_shape all command strict of_modules.unasked few = are.unasked
+strict_shape all command strict (of_modules.strictly answers said none) few = are.strictly (strict_lines all.modules answers) few (are_strict_lines all.modules answers)
+
+module _ (words : List (List ℕ)) (command : Command) (config : Config) (before after : FolderState) (out out_after : SinkState) (result : ℕ) (report : Report) (is_config : IsConfigAt words command config before) (is : IsReported command config before after report) where
+  abbrev differing : List (List ℕ)
+  differing = difference_lines is.map is.all ++ is.is_report.strict
+
+  abbrev lines : List (List ℕ)
+  lines = check_lines (length is.all.needs) differing
+
+  outcome_told : (held told : Option Tree) → told ≡ held → IfSome held (λ tree. IsConfigOf words tree command config) → IfSome held (λ tree. IsHeldAndTraced config tree is.map is.all)
       → IfSome held (λ tree. (later : Tree) × Outcome words tree report.status lines later × (told ≡ Some later))
   outcome_told None told same of checked = tt
   outcome_told (Some tree) told same of checked =
-      (tree, record { files = []; comes = comes.checked config is.map is.all of checked.holds checked.is_traced is.is_report.status refl refl; placed = refl }, same)
+      (tree, record { files = []; comes = comes.checked command config is.map is.all is.is_report.strict of checked.holds checked.is_traced is.is_report.says is.is_report.is.status refl refl; placed = refl }, same)
 
   report_says : Says words before after report.status lines
   report_says =
       says.outcome
-      (shaped.checked (record { config = config; is_config = is_config.can; needs = length is.all.needs; differing = difference_lines is.map is.all; few = few_differ is.map is.all; are_differences = all_differ is.all (differences is.map is.all.needs) (differs_from is.map is.all); ends = is.is_report.status; says = refl }))
+      (shaped.checked (record {
+        command = command;
+        config = config;
+        is_config = is_config.can;
+        needs = length is.all.needs;
+        differing = difference_lines is.map is.all;
+        few = few_differ is.map is.all;
+        are_differences = all_differ is.all (differences is.map is.all.needs) (differs_from is.map is.all);
+        strict = is.is_report.strict;
+        are_strict = strict_shape is.all command is.is_report.strict is.is_report.says is.is_report.few;
+        ends = is.is_report.is.status;
+        says = refl;
+      }))
       (outcome_told before.holds after.holds is.looks.tree is_config.told is.told) (is.looks.quiet (λ e. e)) is.looks.writes
 
-  served_told : (held told : Option Tree) → told ≡ held → IfSome held (λ tree. IsConfigOf words tree Check config) → IfSome held (λ tree. IsHeldAndTraced config tree is.map is.all) → report.status ≡ 0 → IfSome held (λ tree. IsDone words tree told)
+  served_told : (held told : Option Tree) → told ≡ held → IfSome held (λ tree. IsConfigOf words tree command config) → IfSome held (λ tree. IsHeldAndTraced config tree is.map is.all) → report.status ≡ 0 → IfSome held (λ tree. IsDone words tree told)
   served_told None told same of checked zero = tt
   served_told (Some tree) told same of checked zero =
-      done.served (serves_where_done words tree config is.map is.all of checked.holds checked.is_traced (sym is.is_report.status ∙ zero)) same
+      done.served (serves_where_done words tree command config is.map is.all is.is_report.strict of checked.holds checked.is_traced is.is_report.says (sym is.is_report.is.status ∙ zero)) same
 
   pub check_ends : Ends report.status report.text.items out out_after result → out.faults ≤ out_after.faults → EndsAs words before after out out_after result
   check_ends told more =
       ends_as words before after out out_after result report.status lines (λ none. is.looks.tree ∙ none) (served_told before.holds after.holds is.looks.tree is_config.told is.told) report_says
-      (subst (λ text. Ends report.status text out out_after result) is.is_report.text told) is.looks.later (let w = is.looks.writes in omega (arith, w)) more
+      (subst (λ text. Ends report.status text out out_after result) is.is_report.is.text told) is.looks.later (let w = is.looks.writes in omega (arith, w)) more

@@ -11,8 +11,7 @@ use Rattle.words_spec.proofs.PlainIsRead.{one_asked}
 use Rattle.words_spec.specs.PlainWords.{vendoring}
 use Rattle.config_spec.proofs.WordsJudged.{path_vendored}
 use Rattle.config_spec.specs.declared.Command.{Command}
-use Rattle.config_spec.specs.declared.Command.TheVariants.{Link, Unlink, Refresh, Inject, Check, Why, Vendor}
-use Rattle.config_spec.specs.declared.Command.TheVariants.{List as Lists}
+use Rattle.config_spec.specs.declared.Command.TheVariants.{Refresh, Vendor}
 use Rattle.config_spec.specs.Projects.{project_path, IsConfigOf}
 use Rattle.config_spec.specs.Words.{command_of, IsCommandOf, VendorsTo}
 use Rattle.command_words.specs.Orders.{VendorsAt}
@@ -25,7 +24,7 @@ use Rattle.generator_spec.proofs.CopiedMaps.{vendored_generates}
 use Rattle.generator_spec.proofs.Configs.{command_for}
 use Rattle.generator_spec.proofs.Vendorings.{written_files}
 use Rattle.generator_spec.specs.Asked.{AsksInOrder, AsksFew, AsksInOrder as in_order, AsksOwn, HasMap, IsConfigAt}
-use Rattle.generator_spec.specs.Commands.{IsGenerating, IsRefusalOf, NewFile, SaysCounts}
+use Rattle.generator_spec.specs.Commands.{IsRefusalOf, NewFile}
 use Rattle.generator_spec.specs.Ending.{AreWritten, CanRefuse, CanRefuse as can_refuse, Ends, EndsAs, IsDone, IsDone as done, Says, Says as says}
 use Rattle.generator_spec.specs.Ending.{Shaped as shaped, StopsCopying}
 use Rattle.generator_spec.specs.Lines.{memory_line, vendored_line, write_fault_line}
@@ -39,17 +38,6 @@ use Rattle.generator_core.specs.Vendoring.{RefusesHere, RefusesHere as here}
 use Rattle.generator_core.specs.Writing.{AreSome, IsWriting, SaysWrite, SaysWrite as writes, TellsStop, WritesFiles, WritesFiles as writes_files}
 use Rattle.generator_core.proofs.Endings.{ends_by_line, memory_ends, read_fault_ends, refusal_ends}
 use Rattle.generator_core.proofs.Refreshed.{asks_command, takes_no_project, takes_project, vendor_takes}
-
--- a command that says counts generates
-pub counts_generate : (command : Command) → SaysCounts command → IsGenerating command
-counts_generate Link counts = tt
-counts_generate Unlink counts = tt
-counts_generate Refresh counts = tt
-counts_generate Inject counts = tt
-counts_generate Check counts = counts
-counts_generate Lists counts = counts
-counts_generate Why counts = counts
-counts_generate Vendor counts = tt
 
 -- ---- the project as it stands
 

@@ -1,10 +1,9 @@
 -- How a run ends.
 use Rattle.std.proofs.Common.{◌≡◌, ◌≢◌, ◌≤◌, ℕ, List, [], ◌∷◌, ◌++◌, Option, Some, None, Ok, IfSome, inl, inr, refl, sym, ap, ◌∙◌, subst, arith}
 use Rattle.std.specs.List.{concat}
-use Rattle.std.specs.Prelude.{◌+◌, ⊤, option_map, Contains, map as each}
+use Rattle.std.specs.Prelude.{◌+◌, ⊤, option_map, Contains}
 use Rattle.std.specs.FinMap.{get}
 use Rattle.import_map_spec.specs.ParsedMap.{ParsedMap}
-use Rattle.check_spec.specs.Differences.{Difference, differences}
 use Rattle.layout_spec.proofs.Contained.{contains_here}
 use Rattle.trace_spec.specs.Checks.{Gathered}
 use Rattle.trace_spec.specs.Traces.{traced}
@@ -21,7 +20,6 @@ use Rattle.trace_spec.specs.declared.TraceFault.{TraceFault}
 use Rattle.trace_spec.specs.declared.TraceFault.TheVariants as fault
 use Rattle.trace_spec.specs.Modules.{Config}
 use Rattle.config_spec.specs.declared.Command.{Command}
-use Rattle.config_spec.specs.declared.Command.TheVariants.{Check}
 use Rattle.generator_spec.specs.declared.MapFileFault.{MapFileFault}
 use Rattle.generator_spec.specs.declared.MapFileFault.TheVariants as map_file
 use Rattle.generator_spec.specs.declared.PageFault.{PageFault}
@@ -32,7 +30,8 @@ use Rattle.generator_spec.proofs.Refusals.{written_is_opened}
 use Rattle.generator_spec.proofs.Configs.{command_for}
 use Rattle.generator_spec.proofs.Endings.{one_line_text}
 use Rattle.generator_spec.specs.Commands.{SaysCounts, HoldsMap, NewFile, new_file, map_path, Writes, Writes as writes_file}
-use Rattle.generator_spec.specs.Checking.{difference_line, difference_lines, check_status}
+use Rattle.generator_spec.proofs.Strictnesses.{checks_are_exact}
+use Rattle.generator_spec.specs.Checking.{difference_lines, SaysOfModules, check_status}
 use Rattle.generator_spec.specs.Digests.{with_digests}
 use Rattle.generator_spec.specs.Generation.{Generates, map_base}
 use Rattle.config_spec.specs.declared.ConfigFault.{ConfigFault}
@@ -59,7 +58,8 @@ use Rattle.generator_spec.specs.Asked.{IsConfigAt}
 use Rattle.generator_core.specs.Configuring.{StopsConfig, StopsConfig as stops_config}
 use Rattle.generator_core.specs.Preparing.{EndsBefore, IsPrepared, IsReady, shown_files}
 use Rattle.request_trace.specs.Tracing.{TakesSteps}
-use Rattle.generator_core.specs.Spending.{CommandSpends}
+use Rattle.generator_core.specs.Spending.{CommandSpends, OrderSpends}
+use Rattle.generator_spec.specs.Commands.{IsGenerating}
 use Rattle.generator_core.specs.Writing.{AreSome, SaysWrite, TellsNoMeaning, TellsNoMeaning as tells_text, TellsStop, TellsWords, EndsWriting}
 use Rattle.generator_core.specs.Writing.{SaysWrite as writes}
 
@@ -120,6 +120,7 @@ refusal_is_not_zero (refusal.Trace why) = trace_is_not_zero why
 refusal_is_not_zero (refusal.Occupied path) = λ e. omega arith
 refusal_is_not_zero refusal.PathTooLong = λ e. omega arith
 refusal_is_not_zero refusal.TooManySegments = λ e. omega arith
+refusal_is_not_zero refusal.NestedTooDeep = λ e. omega arith
 
 -- ---- what was generated and written serves
 
@@ -157,20 +158,24 @@ linked words tree map line files told is wrote written =
 
 -- ---- a check without a difference
 
-no_lines : (all : Gathered) (ds : List Difference) → check_status (each (difference_line all) ds) ≡ 0 → ds ≡ []
-no_lines all [] zero = refl
-no_lines all (d ∷ more) zero = absurd (omega (arith, zero))
-
-pub serves_where_done : (words : List (List ℕ)) (tree : Tree) (config : Config) (map : ParsedMap) (all : Gathered) → IsConfigOf words tree Check config → HoldsMap tree config map → traced (get tree) config ≡ Ok all → check_status (difference_lines map all) ≡ 0 → MapServes words tree
-serves_where_done words tree config map all is holds traces zero = record {
-  config = config;
-  is_config = is;
-  text = holds.text;
-  stands = holds.stands;
-  serves =
-      checked_maps_serve tree config all holds.reads.base holds.text map traces holds.reads.named holds.reads.parses
-      (no_lines all (differences map all.needs) zero);
-}
+pub serves_where_done :
+    (words : List (List ℕ)) (tree : Tree) (command : Command) (config : Config) (map : ParsedMap) (all : Gathered)
+    (strict : List (List ℕ)) → IsConfigOf words tree command config → HoldsMap tree config map
+    → traced (get tree) config ≡ Ok all → SaysOfModules all command strict
+    → check_status (difference_lines map all ++ strict) ≡ 0 → MapServes words tree
+serves_where_done words tree command config map all strict is holds traces says_so zero =
+    let exact = (checks_are_exact tree config command map all strict traces says_so).0 zero in
+    record {
+      command = command;
+      config = config;
+      is_config = is;
+      agree = exact.1;
+      text = holds.text;
+      stands = holds.stands;
+      serves =
+          checked_maps_serve tree config all holds.reads.base holds.text map traces holds.reads.named holds.reads.parses
+          exact.0;
+    }
 
 -- ---- an end that is said is the end of a run
 
@@ -278,6 +283,15 @@ stop_spends generates stop out out_after result steps later told bounded = recor
   told = λ _ zero. absurd (stop_not_done stop out out_after result told zero);
   bounded = bounded;
 }
+
+-- a command takes no more steps than it may, where its modules aren't checked
+pub order_spends :
+    (command : Command) (out out_after : SinkState) (result steps later : ℕ)
+    → CommandSpends (IsGenerating command) out out_after result steps later
+    → OrderSpends command out out_after result steps later
+order_spends command out out_after result steps later spends =
+    let bounded = spends.bounded in
+    record { told = spends.told; bounded = λ other. bounded; strictly = omega (arith, bounded) }
 
 -- ---- words that are refused
 

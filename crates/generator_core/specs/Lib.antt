@@ -1,5 +1,6 @@
 pub mod Preparing
 pub mod Writing
+pub mod Strictness
 pub mod Checking
 pub mod Listing
 pub mod Configuring

@@ -7,9 +7,8 @@ use Rattle.tree_spec.specs.States.{FolderState, SinkState}
 use Rattle.trace_spec.specs.Modules.{Config}
 use Rattle.config_spec.specs.declared.Command.{Command}
 use Rattle.generator_spec.specs.Asked.{IsConfigAt, AsksFew, own_file}
-use Rattle.generator_spec.specs.Commands.{IsGenerating}
 use Rattle.generator_spec.specs.Ending.{EndsAs}
-use Rattle.generator_core.specs.Spending.{CommandSpends}
+use Rattle.generator_core.specs.Spending.{OrderSpends}
 
 pub record RunsCommand (command : Command) (config : Config) (before after : FolderState) (out out_after : SinkState)
     (result steps later : ℕ) : Type 0 where
@@ -17,4 +16,4 @@ pub record RunsCommand (command : Command) (config : Config) (before after : Fol
       (words : List (List ℕ)) → IsConfigAt words command config before
       → EndsAs words before after out out_after result
   pub asked : IfSome before.asked (λ old. AsksFew config before.holds (own_file command config) old after)
-  pub spends : CommandSpends (IsGenerating command) out out_after result steps later
+  pub spends : OrderSpends command out out_after result steps later

@@ -3,10 +3,15 @@
 --                                                                    generates is done and the output tells what it
 --                                                                    took; and never more than there may be modules
 --                                                                    and requests
-use Rattle.std.specs.Prelude.{◌≡◌, ◌≤◌, ◌+◌, ℕ}
+--     OrderSpends command out out_after result before after      the same of a command on a project, with one step more
+--                                                                    a module where each is checked once more
+use Rattle.std.specs.Prelude.{◌≡◌, ◌≢◌, ◌≤◌, ◌+◌, ℕ}
 use Rattle.tree_spec.specs.declared.LimitName.TheVariants.{Modules, Requests}
 use Rattle.tree_spec.specs.Limits.{limit_number}
 use Rattle.tree_spec.specs.States.{SinkState}
+use Rattle.config_spec.specs.declared.Command.{Command}
+use Rattle.config_spec.specs.declared.Command.TheVariants.{CheckStrictly}
+use Rattle.generator_spec.specs.Commands.{IsGenerating}
 use Rattle.generator_spec.specs.Statuses.{done_status}
 use Rattle.generator_spec.specs.Steps.{SpendsFew}
 
@@ -14,3 +19,8 @@ use Rattle.generator_spec.specs.Steps.{SpendsFew}
 pub record CommandSpends (generates : Type 0) (out out_after : SinkState) (result before after : ℕ) : Type 0 where
   pub told : generates → result ≡ done_status → SpendsFew out out_after before after
   pub bounded : after ≤ before + (limit_number Modules + limit_number Requests)
+
+pub record OrderSpends (command : Command) (out out_after : SinkState) (result before after : ℕ) : Type 0 where
+  pub told : IsGenerating command → result ≡ done_status → SpendsFew out out_after before after
+  pub bounded : command ≢ CheckStrictly → after ≤ before + (limit_number Modules + limit_number Requests)
+  pub strictly : after ≤ before + (limit_number Modules + limit_number Requests) + limit_number Modules

@@ -1,28 +1,30 @@
 //! What a command says of the map that is there, or why it says nothing.
 
-ghost use Rattle.std.specs.Prelude.{◌≡◌, ◌≤◌, ◌+◌, ◌++◌, length, map, IfOk, OnOk, IfSome};
+ghost use Rattle.std.specs.Prelude.{◌≡◌, ◌≤◌, ◌+◌, ◌++◌, [], ◌∷◌, length, map, IfOk, OnOk, IfSome};
 ghost use Rattle.std.specs.List.{concat};
 ghost use Rattle.tree_spec.specs.declared.LimitName.TheVariants.{Modules, Requests};
 ghost use Rattle.tree_spec.specs.Limits.{limit_number};
 ghost use Rattle.trace_spec.specs.Modules.{web_name};
 ghost use Rattle.trace_spec.specs.Walking.{the_page};
 ghost use Rattle.map_check.specs.Shown.{shown};
+ghost use Rattle.config_spec.specs.declared.Command.{Command};
 ghost use Rattle.generator_spec.specs.Checking as spec_at;
-ghost use Rattle.generator_spec.specs.Checking.{difference_line};
-ghost use Rattle.generator_spec.specs.Lines as spec;
-ghost use Rattle.generator_spec.specs.Statuses.{differences_status, done_status};
+ghost use Rattle.generator_spec.specs.Checking.{difference_line, difference_lines};
 ghost use Rattle.generator_spec.specs.Commands as spec_files;
 ghost use Rattle.generator_spec.specs.Commands.{HoldsMap};
-ghost use Rattle.generator_core.specs.Checking.{Checks, ChecksBy, FindsMapText, FindsMap, IsNameless, IsReport};
+ghost use Rattle.generator_core.specs.Checking.{AsksGrammar, Checks, ChecksBy, FindsMapText, FindsMap, IsNameless};
+ghost use Rattle.generator_core.specs.Checking.{IsReportOf, IsTold, IsToldStrictly, Reports};
+ghost use Rattle.generator_core.specs.Strictness.{further_steps};
 
 use crate::paths::map_path;
+use crate::strictness::push_strict;
 use generation::{Stop, traced};
 use generator_spec::{MapFileFault, Refusal};
 use map_check::{Difference, Differences, check_map};
 use map_parse::{MapFault, ParsedMap, parse_map};
 use request_trace::{Config, Trace};
 use run_texts::{DIFFERENCES, DONE, differences_line, differs_line, served_line};
-use shared_types::{Bytes, Memory, Steps, Text};
+use shared_types::{Bytes, Listed, Memory, Steps, Text};
 use std::alloc::{AllocError, Global};
 use std::sync::ledger::Ledger;
 use trace_spec::TraceFault;
@@ -37,21 +39,25 @@ pub struct Report {
     pub text: Vec<u8>,
 }
 
-/// `check` reads the map before anything else, traces, and writes nothing.
+/// `check` reads the map before anything else, traces, and writes nothing. Strictly, it reads each module once more, by
+/// the statement grammar.
 pub fn checked<F: Folder, L: Ledger>(
     alloc: Global,
     folder: &mut F,
     config: &Config,
+    strictly: bool,
     steps: &mut Steps<L>,
 ) -> Result<Report, Stop>
-    ensures checks { Checks config.now (F.state folder.old) result (F.state folder.new) }
-    ensures bounded { steps.new ≤ steps.old + (limit_number Modules + limit_number Requests) }
+    ensures checks { (command : Command) → AsksGrammar command strictly
+        → Checks command config.now (F.state folder.old) result (F.state folder.new) }
+    ensures bounded { steps.new
+        ≤ steps.old + (limit_number Modules + limit_number Requests) + further_steps strictly }
 {
     match map_text(alloc, folder) {
         Err(stop) => Err(stop),
         Ok(text) => match map_of(alloc, config, text.as_slice()) {
             Err(stop) => Err(stop),
-            Ok(parsed) => checked_by(alloc, folder, config, &parsed, steps),
+            Ok(parsed) => checked_by(alloc, folder, config, &parsed, strictly, steps),
         },
     }
 }
@@ -133,56 +139,88 @@ fn without_base(alloc: Global, config: &Config) -> Stop
     }
 }
 
-// Traces, and says what the map doesn't serve.
+// Traces, and says what the map doesn't serve, and which modules don't agree, where that is asked for.
 fn checked_by<F: Folder, L: Ledger>(
     alloc: Global,
     folder: &mut F,
     config: &Config,
     parsed: &ParsedMap,
+    strictly: bool,
     steps: &mut Steps<L>,
 ) -> Result<Report, Stop>
     ensures checks { IfSome (F.state folder.old).holds (λ tree. HoldsMap tree config.now parsed.now)
-        → ChecksBy config.now (F.state folder.old) result (F.state folder.new) }
-    ensures bounded { steps.new ≤ steps.old + (limit_number Modules + limit_number Requests) }
+        → (command : Command) → AsksGrammar command strictly
+        → ChecksBy command config.now (F.state folder.old) result (F.state folder.new) }
+    ensures bounded { steps.new
+        ≤ steps.old + (limit_number Modules + limit_number Requests) + further_steps strictly }
 {
     match traced(alloc, folder, config, steps) {
         Err(stop) => Err(stop),
-        Ok(trace) => match report_of(alloc, &trace, parsed) {
-            Err(_) => Err(Stop::Memory),
-            Ok(report) => Ok(report),
-        },
+        Ok(trace) => report_of(alloc, &trace, parsed, strictly, steps),
     }
 }
 
-// What the map doesn't serve of a trace's needs.
-fn report_of(alloc: Global, trace: &Trace, parsed: &ParsedMap) -> Result<Report, Memory>
-    ensures { IfOk result (IsReport parsed.now trace.now.gathered) }
+// What the map doesn't serve of a trace's needs, and which modules don't agree, where that is asked for.
+fn report_of<L: Ledger>(
+    alloc: Global,
+    trace: &Trace,
+    parsed: &ParsedMap,
+    strictly: bool,
+    steps: &mut Steps<L>,
+) -> Result<Report, Stop>
+    ensures reports { (command : Command) → AsksGrammar command strictly
+        → Reports command parsed.now trace.now.gathered result }
+    ensures cost { steps.new ≤ steps.old + further_steps strictly }
 {
-    let differences = check_map(alloc, trace.needs(), parsed)?;
-    if differences.len() == 0 {
-        return served(alloc, trace.needs().len());
+    match differing(alloc, trace, parsed) {
+        Err(_) => Err(Stop::Memory),
+        Ok(lines) => {
+            if strictly {
+                reported_strictly(alloc, trace, lines, steps)
+            } else {
+                reported(alloc, trace, &lines)
+            }
+        }
     }
-    differing(alloc, trace, &differences)
 }
 
-fn served(alloc: Global, needs: usize) -> Result<Report, Memory>
-    ensures status { IfOk result (λ report. report.status ≡ done_status) }
-    ensures text { IfOk result (λ report. report.text.items ≡ spec.served_line needs) }
+// With the lines of the modules behind those of the needs.
+fn reported_strictly<L: Ledger>(
+    alloc: Global,
+    trace: &Trace,
+    mut lines: Listed<Bytes>,
+    steps: &mut Steps<L>,
+) -> Result<Report, Stop>
+    ensures reports { IsToldStrictly trace.now.gathered lines result }
+    ensures cost { steps.new ≤ steps.old + limit_number Modules }
 {
-    Ok(Report {
-        status: DONE,
-        text: served_line(alloc, needs)?,
-    })
+    match push_strict(alloc, &mut lines, trace, steps) {
+        Err(stop) => Err(stop),
+        Ok(()) => reported(alloc, trace, &lines),
+    }
 }
 
-fn differing(alloc: Global, trace: &Trace, differences: &Differences) -> Result<Report, Memory>
-    ensures status { IfOk result (λ report. report.status ≡ differences_status) }
-    ensures text { IfOk result (λ report. report.text.items
-        ≡ concat (map (λ d. difference_line trace.now.gathered (shown d)) differences.now)
-        ++ spec.differences_line (length differences.now)) }
+fn reported(alloc: Global, trace: &Trace, lines: &Listed<Bytes>) -> Result<Report, Stop>
+    ensures { IsTold (length trace.now.gathered.needs) lines.now result }
 {
-    let mut text = difference_text(alloc, trace, differences)?;
-    let last = differences_line(alloc, differences.len())?;
+    match report_with(alloc, trace.needs().len(), lines) {
+        Err(_) => Err(Stop::Memory),
+        Ok(report) => Ok(report),
+    }
+}
+
+// These lines of what differs, and how many; or the number of the needs, where there are none.
+fn report_with(alloc: Global, needs: usize, lines: &Listed<Bytes>) -> Result<Report, Memory>
+    ensures { IfOk result (IsReportOf needs lines.now) }
+{
+    if lines.is_empty() {
+        return Ok(Report {
+            status: DONE,
+            text: served_line(alloc, needs)?,
+        });
+    }
+    let mut text = joined(alloc, lines)?;
+    let last = differences_line(alloc, lines.len())?;
     text.extend_from_slice(last.as_slice())?;
     Ok(Report {
         status: DIFFERENCES,
@@ -190,38 +228,58 @@ fn differing(alloc: Global, trace: &Trace, differences: &Differences) -> Result<
     })
 }
 
-// The line of each difference.
-fn difference_text(
-    alloc: Global,
-    trace: &Trace,
-    differences: &Differences,
-) -> Result<Vec<u8>, Memory>
-    ensures { IfOk result (λ text. text.items
-        ≡ concat (map (λ d. difference_line trace.now.gathered (shown d)) differences.now)) }
+// The lines, one after another.
+fn joined(alloc: Global, lines: &Listed<Bytes>) -> Result<Vec<u8>, Memory>
+    ensures { IfOk result (λ text. text.items ≡ concat lines.now) }
 {
     let mut text = Vec::new(alloc);
-    for number in 0..differences.len() {
-        let Some(difference) = differences.at(number) else {
+    for number in 0..lines.len() {
+        let Some(line) = lines.at(number) else {
             unreachable!();
         };
-        push_difference(alloc, &mut text, trace, difference)?;
+        text.extend_from_slice(line.as_slice())?;
     }
     Ok(text)
 }
 
+// The line of each need that the map doesn't serve.
+fn differing(alloc: Global, trace: &Trace, parsed: &ParsedMap) -> Result<Listed<Bytes>, Memory>
+    ensures { IfOk result (λ lines. lines ≡ difference_lines parsed.now trace.now.gathered) }
+{
+    let differences = check_map(alloc, trace.needs(), parsed)?;
+    difference_texts(alloc, trace, &differences)
+}
+
+// The line of each difference.
+fn difference_texts(
+    alloc: Global,
+    trace: &Trace,
+    differences: &Differences,
+) -> Result<Listed<Bytes>, Memory>
+    ensures { IfOk result (λ lines. lines ≡ map (λ d. difference_line trace.now.gathered (shown d)) differences.now) }
+{
+    let mut lines = Listed::new(alloc);
+    for number in 0..differences.len() {
+        let Some(difference) = differences.at(number) else {
+            unreachable!();
+        };
+        push_difference(alloc, &mut lines, trace, difference)?;
+    }
+    Ok(lines)
+}
+
 fn push_difference(
     alloc: Global,
-    text: &mut Vec<u8>,
+    lines: &mut Listed<Bytes>,
     trace: &Trace,
     difference: &Difference,
 ) -> Result<(), Memory>
-    ensures { OnOk result (text.new.items
-        ≡ text.old.items ++ difference_line trace.now.gathered (shown difference.now)) }
+    ensures { OnOk result (lines.new ≡ lines.old ++ difference_line trace.now.gathered (shown difference.now) ∷ []) }
 {
     let (referrer, specifier) = spelled(trace, difference.need);
     let wants = wanted(trace, difference.need);
     let line = differs_line(alloc, referrer, specifier, wants, &difference.got)?;
-    text.extend_from_slice(line.as_slice())
+    lines.push(Bytes::from_vec(line))
 }
 
 // How a need is first spelled: who asks, and the specifier.

@@ -11,6 +11,7 @@ mod paths;
 mod prepared;
 mod project;
 mod running;
+mod strictness;
 mod vendoring;
 
 pub use project_file::{ProjectFault, print_project, read_project};

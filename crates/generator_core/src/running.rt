@@ -1,7 +1,7 @@
 ghost use Rattle.std.specs.Prelude.{◌≡◌, ◌≢◌, ◌≤◌, List, ℕ, map, string_bytes, IfSome, codes, length};
 ghost use Rattle.words_spec.specs.PlainWords.{most_packages};
 ghost use Rattle.config_spec.specs.declared.Command.{Command as Commanded};
-ghost use Rattle.config_spec.specs.declared.Command.TheVariants.{Inject, Check, Why, Vendor, List as ListModules};
+ghost use Rattle.config_spec.specs.declared.Command.TheVariants.{Inject, Why, Vendor, List as ListModules};
 ghost use Rattle.config_spec.specs.Words.{IsSession};
 ghost use Rattle.generator_spec.specs.Commands.{IsGenerating, SaysCounts};
 ghost use Rattle.generator_spec.specs.Ending.{Ends, EndsAs, TellsRefusal};
@@ -16,7 +16,8 @@ ghost use Rattle.generator_core.specs.Vendoring.{EndsFiles, RunsVendor, new_file
 ghost use Rattle.generator_spec.specs.Lines.{vendored_line as copies_line};
 ghost use Rattle.tree_vendor.specs.Copying.{AreKept};
 ghost use Rattle.generator_core.specs.Running.{RunsCommand};
-ghost use Rattle.generator_core.specs.Spending.{CommandSpends};
+ghost use Rattle.generator_core.specs.Checking.{AsksGrammar};
+ghost use Rattle.generator_core.specs.Spending.{CommandSpends, OrderSpends};
 ghost use Rattle.generator_core.specs.Writing.{TellsStop, TellsWords, EndsWriting, WritesFiles};
 
 use crate::checking::checked;
@@ -150,8 +151,8 @@ fn ordered<F: Folder, O: Sink, L: Ledger>(
         → EndsAs words (F.state folder.old) (F.state folder.new) (O.state out.old) (O.state out.new) result }
     ensures asked { IfSome (F.state folder.old).asked (λ old. (words : List (List ℕ)) → IsOrder words order.entry
         → AsksInOrder words (F.state folder.old) old (F.state folder.new)) }
-    ensures steps { CommandSpends (IsGenerating (command_ordered order.entry)) (O.state out.old) (O.state out.new)
-        result steps.old steps.new }
+    ensures steps { OrderSpends (command_ordered order.entry) (O.state out.old) (O.state out.new) result steps.old
+        steps.new }
 {
     let command = order.command();
     match configured(alloc, folder, order) {
@@ -179,7 +180,8 @@ fn commanded<F: Folder, O: Sink, L: Ledger>(
         Command::Unlink => write_map(alloc, folder, config, true, out, steps),
         Command::Refresh => write_map(alloc, folder, config, false, out, steps),
         Command::Inject => inject(alloc, folder, config, out, steps),
-        Command::Check => check(alloc, folder, config, out, steps),
+        Command::Check => check(alloc, folder, config, false, out, steps),
+        Command::CheckStrictly => check(alloc, folder, config, true, out, steps),
         Command::List => list(alloc, folder, config, out, steps),
         Command::Why => unreachable!(),
         Command::Vendor => unreachable!(),
@@ -222,18 +224,21 @@ fn inject<F: Folder, O: Sink, L: Ledger>(
     }
 }
 
-// `check`: reads the map, traces, and says what the map doesn't serve.
+// `check`: reads the map, traces, and says what the map doesn't serve; and, strictly, which modules don't agree with
+// the statement grammar.
 fn check<F: Folder, O: Sink, L: Ledger>(
     alloc: Global,
     folder: &mut F,
     config: &Config,
+    strictly: bool,
     out: &mut O,
     steps: &mut Steps<L>,
 ) -> u8
-    ensures { RunsCommand Check config.now (F.state folder.old) (F.state folder.new) (O.state out.old)
+    ensures { (command : Commanded) → AsksGrammar command strictly
+        → RunsCommand command config.now (F.state folder.old) (F.state folder.new) (O.state out.old)
         (O.state out.new) result steps.old steps.new }
 {
-    match checked(alloc, folder, config, steps) {
+    match checked(alloc, folder, config, strictly, steps) {
         Ok(report) => tell(out, report.text.as_slice(), report.status),
         Err(stop) => close(alloc, stop, out),
     }

@@ -1,5 +1,5 @@
 -- What the status of an end says of the folder and of the faults.
-use Rattle.std.proofs.Common.{◌≡◌, ◌≢◌, ◌⊎◌, ℕ, List, [], ◌∷◌, Option, Some, None, IfSome, inl, inr, ⊎_elim, refl, sym, ap, ◌∙◌, subst, arith}
+use Rattle.std.proofs.Common.{◌≡◌, ◌≢◌, ◌⊎◌, ◌++◌, ℕ, List, [], ◌∷◌, Option, Some, None, IfSome, inl, inr, ⊎_elim, refl, sym, ap, ◌∙◌, subst, arith}
 use Rattle.std.specs.List.{concat}
 use Rattle.std.proofs.lemmas.List.{append-nil}
 use Rattle.tree_spec.specs.Counts.{Rose}
@@ -23,7 +23,7 @@ use Rattle.config_spec.specs.Projects.{RefusesAsked, measure_config}
 use Rattle.config_spec.specs.Projects.IsReadFault.{too_large, not_project, above}
 use Rattle.config_spec.specs.Projects.RefusesAsked.{bad_project, no_project, no_base, too_many_entries, not_linked}
 use Rattle.config_spec.specs.declared.Command.{Command}
-use Rattle.config_spec.specs.declared.Command.TheVariants.{Check, Refresh, Vendor, Why, List as Lists}
+use Rattle.config_spec.specs.declared.Command.TheVariants.{Refresh, Vendor, Why, List as Lists}
 use Rattle.generator_spec.specs.declared.MapFileFault.{MapFileFault}
 use Rattle.generator_spec.specs.declared.MapFileFault.TheVariants as map_file
 use Rattle.generator_spec.specs.declared.PageFault.{PageFault}
@@ -97,7 +97,8 @@ map_file_refusing (map_file.NotObject which) = seven refl
 refusing : (config : Config) (command : Command) (why : Refusal) → IsRefusalOf config command why → IsRefusing (status_of why)
 refusing config command why (kind.page fault is) = page_refusing fault is
 refusing config command why (kind.trace same fault is) = trace_refusing config fault is
-refusing config command why (kind.map_file fault) = map_file_refusing fault
+refusing config command why (kind.map_file same fault checks) = map_file_refusing fault
+refusing config command why kind.nested = three refl
 refusing config command why (kind.many_choices same generating) = three refl
 refusing config command why (kind.large_map same generating) = three refl
 
@@ -131,7 +132,7 @@ shaped_status words status lines (shaped.not_plain text none s l) = inr (two s)
 shaped_status words status lines (shaped.refused why is s l) = inr (subst IsRefusing (sym s) (can_refusing words why is))
 shaped_status words status lines (shaped.done line s l counted) = inl s
 shaped_status words status lines (shaped.checked is) =
-    subst (λ n. (n ≡ 0) ⊎ IsRefusing n) (sym is.ends) (check_refusing is.differing)
+    subst (λ n. (n ≡ 0) ⊎ IsRefusing n) (sym is.ends) (check_refusing (is.differing ++ is.strict))
 shaped_status words status lines (shaped.listed is) = inl is.ends
 shaped_status words status lines (shaped.explained is) =
     ⊎_elim inl (λ e. inr (ten e)) (chain_status is.config is.path status lines is.tells)
@@ -183,7 +184,7 @@ unmoved :
 unmoved words tree status lines files later (comes.not_plain text none s l f) placed other = nothing_placed files tree later f placed
 unmoved words tree status lines files later (comes.refused why is s l f) placed other = nothing_placed files tree later f placed
 unmoved words tree status lines files later (comes.written command config map is generates wrote s l) placed other = absurd (other s)
-unmoved words tree status lines files later (comes.checked config map all is holds traces s l f) placed other = nothing_placed files tree later f placed
+unmoved words tree status lines files later (comes.checked command config map all strict is holds traces says_so s l f) placed other = nothing_placed files tree later f placed
 unmoved words tree status lines files later (comes.listed config all is traces s l f) placed other = nothing_placed files tree later f placed
 unmoved words tree status lines files later (comes.explained path config all asks is traces tells f) placed other = nothing_placed files tree later f placed
 unmoved words tree status lines files later (comes.vendored to pairs v s l f) placed other = absurd (other s)
@@ -259,7 +260,7 @@ module _ (words : List (List ℕ)) (before after : FolderState) (status : ℕ) (
   shaped_two (shaped.not_plain text none s l) is_two = inl none
   shaped_two (shaped.refused why is s l) is_two = inr (why, is, sym s ∙ is_two)
   shaped_two (shaped.done line s l counted) is_two = absurd (omega arith)
-  shaped_two (shaped.checked is) is_two = absurd (check_not_two is.differing (sym is.ends ∙ is_two))
+  shaped_two (shaped.checked is) is_two = absurd (check_not_two (is.differing ++ is.strict) (sym is.ends ∙ is_two))
   shaped_two (shaped.listed is) is_two = let zero = is.ends in absurd (omega (arith, zero, is_two))
   shaped_two (shaped.explained is) is_two =
       absurd (⊎_elim (λ e. omega (arith, e, is_two)) (λ e. omega (arith, e, is_two)) (chain_status is.config is.path status lines is.tells))
@@ -304,7 +305,7 @@ module _ (words : List (List ℕ)) (before after : FolderState) (status : ℕ) (
   refused_shape fault refuses (shaped.done line s l counted) =
       absurd (refused_or_command words fault counted.command refuses (command_for words counted.command counted.config counted.is_config))
   refused_shape fault refuses (shaped.checked is) =
-      absurd (refused_or_command words fault Check refuses (command_for words Check is.config is.is_config))
+      absurd (refused_or_command words fault is.command refuses (command_for words is.command is.config is.is_config))
   refused_shape fault refuses (shaped.listed is) =
       absurd (refused_or_command words fault Lists refuses (command_for words Lists is.config is.is_config))
   refused_shape fault refuses (shaped.explained is) =
@@ -345,7 +346,7 @@ module _ (words : List (List ℕ)) (before after : FolderState) (status : ℕ) (
   no_meaning_shape none (shaped.not_plain text too s l) = s
   no_meaning_shape none (shaped.refused why is s l) = absurd (none (can_is_plain why is))
   no_meaning_shape none (shaped.done line s l counted) = absurd (none (command_is_plain words counted.command (command_for words counted.command counted.config counted.is_config)))
-  no_meaning_shape none (shaped.checked is) = absurd (none (command_is_plain words Check (command_for words Check is.config is.is_config)))
+  no_meaning_shape none (shaped.checked is) = absurd (none (command_is_plain words is.command (command_for words is.command is.config is.is_config)))
   no_meaning_shape none (shaped.listed is) = absurd (none (command_is_plain words Lists (command_for words Lists is.config is.is_config)))
   no_meaning_shape none (shaped.explained is) = absurd (none (command_is_plain words Why (command_for words Why is.config is.is_config)))
   no_meaning_shape none (shaped.vendored is) = absurd (none (record { asked = vendoring is.can.to; asks = is.can.asks }))

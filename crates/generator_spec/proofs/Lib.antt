@@ -6,9 +6,11 @@ pub mod Explanations
 pub mod RequestNumbers
 pub mod Nameless
 pub mod MapPaths
+pub mod Strictnesses
 pub mod Refusals
 pub mod Vendorings
 pub mod Outcomes
+pub mod SomeOutcomes
 pub mod Endings
 pub mod ToldLines
 pub mod Meetings

@@ -5,7 +5,7 @@ use Rattle.std.specs.List.{concat}
 use Rattle.tree_spec.specs.States.{FolderState, SinkState}
 use Rattle.tree_spec.specs.Trees.{Tree}
 use Rattle.generator_spec.specs.Lines.{memory_line}
-use Rattle.config_spec.specs.declared.Command.TheVariants.{Check, Vendor, Why}
+use Rattle.config_spec.specs.declared.Command.TheVariants.{Vendor, Why}
 use Rattle.generator_spec.specs.Outcome.{ComesTo, ComesTo as comes, Outcome}
 use Rattle.generator_spec.specs.Commands.{IsGenerating, NewFile}
 use Rattle.generator_spec.specs.Ending.{StopsCopying, StopsWriting, Says, Ends, Says as says, Ends as ends}
@@ -13,7 +13,8 @@ use Rattle.generator_spec.specs.Laws.{SameOutcome}
 use Rattle.generator_spec.specs.Promises.{Quiet, Stands, Finishes, Completes, Meets, Finishes as finish, Completes as complete}
 use Rattle.config_spec.specs.Words.{IsPlain}
 use Rattle.generator_spec.proofs.Configs.{command_is, command_is_plain, one_config}
-use Rattle.generator_spec.proofs.Outcomes.{one_outcome, one_status, refused_or_vendored, refused_or_written, two_commands, writes_count, writes_generate}
+use Rattle.generator_spec.proofs.Outcomes.{checked_or_other, one_outcome, one_status, refused_or_vendored, refused_or_written, two_commands, writes_count, writes_generate}
+use Rattle.generator_spec.proofs.Strictnesses.{checking_or_generating, says_checking}
 use Rattle.generator_spec.proofs.Endings.{HasOutcomeIn, one_line_text}
 
 told_there : (P : Tree → Type 0) (held : Option Tree) (tree : Tree) → held ≡ Some tree → IfSome held P → P tree
@@ -37,10 +38,11 @@ no_map words tree line told expected texts files stops (comes.refused why refuse
     (writes_count tree stops.generated.config stops.map stops.generated.command stops.files stops.writes)
 no_map words tree line told expected texts files stops (comes.written command config map is generates wrote s l) other =
     other s
-no_map words tree line told expected texts files stops (comes.checked config map all is holds traces s l f) other =
-    subst IsGenerating
-    (one_config words tree stops.generated.command Check stops.generated.config config stops.generated.is_config is).one_command
-    (writes_generate tree stops.generated.config stops.map stops.generated.command stops.files stops.writes)
+no_map words tree line told expected texts files stops (comes.checked command config map all strict is holds traces says_so s l f) other =
+    checking_or_generating command (says_checking all command strict says_so)
+    (subst IsGenerating
+    (one_config words tree stops.generated.command command stops.generated.config config stops.generated.is_config is).one_command
+    (writes_generate tree stops.generated.config stops.map stops.generated.command stops.files stops.writes))
 no_map words tree line told expected texts files stops (comes.listed config all is traces s l f) other = other s
 no_map words tree line told expected texts files stops (comes.explained path config all asks is traces tells f) other =
     subst IsGenerating
@@ -60,8 +62,9 @@ no_copies words tree told expected texts files stops (comes.refused why refused 
     refused_or_vendored words tree why stops.to stops.pairs refused stops.vendors
 no_copies words tree told expected texts files stops (comes.written command config map is generates wrote s l) other =
     other s
-no_copies words tree told expected texts files stops (comes.checked config map all is holds traces s l f) other =
-    two_commands words tree Check Vendor config stops.vendors.config is stops.vendors.is_config (λ same. absurd (cc))
+no_copies words tree told expected texts files stops (comes.checked command config map all strict is holds traces says_so s l f) other =
+    checked_or_other words tree command Vendor config stops.vendors.config (says_checking all command strict says_so) is
+    stops.vendors.is_config (λ same. absurd (cc)) (λ same. absurd (cc))
 no_copies words tree told expected texts files stops (comes.listed config all is traces s l f) other = other s
 no_copies words tree told expected texts files stops (comes.explained path config all asks is traces tells f) other =
     two_commands words tree Why Vendor config stops.vendors.config is stops.vendors.is_config (λ same. absurd (cc))

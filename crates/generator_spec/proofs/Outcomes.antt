@@ -1,40 +1,33 @@
 -- A command over a tree has one outcome.
-use Rattle.std.proofs.Common.{◌≡◌, ◌⊎◌, ℕ, List, [], ◌∷◌, length, Option, Some, Result, Ok, Err, codes, refl, sym, ap, ◌∙◌, subst, inl, inr, arith, ◌≢◌, None}
+use Rattle.std.proofs.Common.{◌≡◌, ℕ, List, [], ◌∷◌, length, Result, Ok, Err, refl, sym, ap, ◌∙◌, subst, inl, inr, ◌≢◌}
 use Rattle.std.specs.Prelude.{All, ◌++◌}
 use Rattle.std.proofs.lemmas.List.Elements.{All-nil, All-cons, All-head, All-tail}
-use Rattle.std.specs.FinMap.{get, insert}
-use Rattle.tree_spec.specs.declared.Entry.{Entry}
-use Rattle.tree_spec.specs.declared.Entry.TheVariants.{Stored, Directory}
-use Rattle.tree_spec.specs.declared.LimitName.TheVariants.{Map, Choices}
-use Rattle.tree_spec.specs.Paths.{IsPath, IsParent, IsAbove, parent_of, further}
-use Rattle.tree_spec.specs.Trees.{Tree, IsTree}
-use Rattle.tree_spec.proofs.Insertion.{get_other}
-use Rattle.tree_spec.proofs.PathsAbove.{above_by_parent, nothing_above_root}
-use Rattle.tree_spec.proofs.Placings.{one_placing, inserted_places, folders_above}
+use Rattle.std.specs.FinMap.{get}
+use Rattle.tree_spec.specs.declared.Entry.TheVariants.{Stored}
+use Rattle.tree_spec.specs.Paths.{IsPath}
+use Rattle.tree_spec.specs.Trees.{Tree}
+use Rattle.tree_spec.proofs.Placings.{one_placing}
 use Rattle.import_map_spec.specs.ParsedMap.{ParsedMap}
 use Rattle.trace_spec.specs.declared.TraceFault.{TraceFault}
 use Rattle.trace_spec.specs.Modules.{Config}
 use Rattle.trace_spec.specs.Checks.{Gathered}
 use Rattle.trace_spec.specs.Traces.{traced}
-use Rattle.words_spec.specs.PlainWords.{Asks}
-use Rattle.vendor_spec.proofs.Made.{some_copied}
-use Rattle.vendor_spec.proofs.Plans.{one_plan, some_plan}
-use Rattle.vendor_spec.specs.Goals.{HasDeepCopy, HasLongCopy}
+use Rattle.vendor_spec.proofs.Plans.{one_plan}
 use Rattle.vendor_spec.specs.Vendored.{Pair, IsPlan}
-use Rattle.config_spec.proofs.WordsJudged.{path_vendored, vendor_copies, why_explains, words_are_judged}
+use Rattle.config_spec.proofs.WordsJudged.{words_are_judged}
 use Rattle.config_spec.specs.declared.Command.{Command}
-use Rattle.config_spec.specs.declared.Command.TheVariants.{Link, Unlink, Refresh, Check, Why, Vendor}
+use Rattle.config_spec.specs.declared.Command.TheVariants.{Link, Unlink, Refresh, Inject, Check, CheckStrictly, Why, Vendor}
 use Rattle.config_spec.specs.declared.Command.TheVariants.{List as Lists}
 use Rattle.generator_spec.specs.declared.Refusal.{Refusal}
-use Rattle.generator_spec.specs.declared.Refusal.TheVariants.{Trace, Limit, Config as Configured, Occupied, PathTooLong, TooManySegments}
-use Rattle.generator_spec.specs.Checking.{difference_lines, check_status, check_lines}
+use Rattle.generator_spec.specs.declared.Refusal.TheVariants.{Config as Configured}
+use Rattle.generator_spec.specs.Checking.{difference_lines, check_status, check_lines, SaysOfModules, SaysOfModules as says}
 use Rattle.generator_spec.specs.Listing.{list_lines}
 use Rattle.generator_spec.specs.Explaining.{SaysWhy}
-use Rattle.generator_spec.specs.Commands.{IsGenerating, SaysCounts, map_path, HoldsMap, Opens, IsMapping as mapping, Opens as opens, Refuses, Refuses as refuses}
+use Rattle.generator_spec.specs.Commands.{IsChecking, IsChecking as checking, IsGenerating, SaysCounts, map_path, HoldsMap, Opens, IsMapping as mapping, Opens as opens, Refuses, Refuses as refuses}
 use Rattle.generator_spec.specs.Commands.{NewFile, new_file, map_and_project, Writes, Writes as writes}
-use Rattle.generator_spec.specs.Generation.{Generates, IsTooWide, IsTooLarge}
+use Rattle.generator_spec.specs.Generation.{Generates}
 use Rattle.project_spec.specs.ProjectFiles.{project_text}
-use Rattle.config_spec.specs.Words.{AsksWhy, VendorsTo, command_of, IsPlain, IsSession, Measures, RefusesWords}
+use Rattle.config_spec.specs.Words.{AsksWhy, IsPlain, Measures, RefusesWords}
 use Rattle.config_spec.specs.declared.ConfigFault.{ConfigFault}
 use Rattle.workload_spec.specs.Packages.{tree_of}
 use Rattle.config_spec.specs.Projects.{IsConfigOf, RefusesConfig, measure_config, project_path}
@@ -43,19 +36,18 @@ use Rattle.generator_spec.specs.Lines.{status_of, line_of, done_line, measured_l
 use Rattle.generator_spec.specs.Measuring.{RefusesMeasure}
 use Rattle.generator_spec.specs.Outcome.{ComesTo, FilesPlaced, Outcome, RefusesRun, RefusesRun as runs}
 use Rattle.generator_spec.specs.Outcome.ComesTo.{not_plain, refused, written, checked, listed, explained, vendored, measured}
-use Rattle.generator_spec.specs.Vendoring.{copied_files, IsBlocked, RefusesCopies, RefusesCopies as copies, Vendors}
-use Rattle.generator_spec.specs.Laws.{OneOutcome, HasOutcome, SomeOutcome}
+use Rattle.generator_spec.specs.Vendoring.{copied_files, RefusesCopies, Vendors}
+use Rattle.generator_spec.specs.Laws.{OneOutcome}
 use Rattle.generator_spec.proofs.Configs.{SameConfig, one_config, one_config_fault, refused_or_config}
 use Rattle.generator_spec.proofs.Configs.{words_refused_or_config, words_refused_or_refused, page_is_path, plain_or_not}
 use Rattle.generator_spec.proofs.Configs.{command_is, command_is_plain, refused_is_plain, measured_is_plain}
-use Rattle.generator_spec.proofs.Configs.{Judged, Judged as judgement, judged}
-use Rattle.generator_spec.proofs.Explanations.{Explanation, one_path_asked, one_explanation, some_explanation}
-use Rattle.generator_spec.proofs.Generations.{one_trace, one_layout, one_text, some_generation}
-use Rattle.generator_spec.proofs.MapPaths.{map_is_path, project_is_path, map_in_root, project_in_root}
-use Rattle.generator_spec.proofs.Nameless.{traced_is_named}
+use Rattle.generator_spec.proofs.Explanations.{one_path_asked, one_explanation}
+use Rattle.generator_spec.proofs.Generations.{one_trace, one_layout, one_text}
+use Rattle.generator_spec.proofs.MapPaths.{map_is_path, project_is_path}
 use Rattle.generator_spec.proofs.Refusals.{one_refusal, refused_or_opened_and_generated, refused_or_checked, refused_or_listed, refused_or_explained, written_is_opened}
-use Rattle.generator_spec.proofs.Refusals.{Refused, opened_or_refused, one_held, one_write}
-use Rattle.generator_spec.proofs.Vendorings.{copied_paths, files_placed, one_copy_refusal, one_folder, refused_or_copied}
+use Rattle.generator_spec.proofs.Refusals.{one_held, one_write}
+use Rattle.generator_spec.proofs.Strictnesses.{checking_or_generating, one_saying, says_checking}
+use Rattle.generator_spec.proofs.Vendorings.{copied_paths, one_copy_refusal, one_folder, refused_or_copied}
 
 -- ---- one at most
 
@@ -86,17 +78,40 @@ writes_count tree config map command files writes.unlinked = tt
 writes_count tree config map command files writes.refreshed = tt
 writes_count tree config map command files (writes.in_page page new is i) = tt
 
+-- a command that says counts generates
+pub counts_generate : (command : Command) → SaysCounts command → IsGenerating command
+counts_generate Link counts = tt
+counts_generate Unlink counts = tt
+counts_generate Refresh counts = tt
+counts_generate Inject counts = tt
+counts_generate Check counts = counts
+counts_generate CheckStrictly counts = counts
+counts_generate Lists counts = counts
+counts_generate Why counts = counts
+counts_generate Vendor counts = tt
+
 -- the words ask for one command
 pub two_commands : (words : List (List ℕ)) (tree : Tree) (some other : Command) (config second : Config) → IsConfigOf words tree some config → IsConfigOf words tree other second → some ≢ other → ⊥
 two_commands words tree some other config second is is_too different = different (one_config words tree some other config second is is_too).one_command
 
+-- what is checked is neither listed, nor explained, nor copied
+pub checked_or_other :
+    (words : List (List ℕ)) (tree : Tree) (command other : Command) (config second : Config) → IsChecking command
+    → IsConfigOf words tree command config → IsConfigOf words tree other second → Check ≢ other
+    → CheckStrictly ≢ other → ⊥
+checked_or_other words tree command other config second checking.plainly is is_too plainly strictly =
+    plainly (one_config words tree command other config second is is_too).one_command
+checked_or_other words tree command other config second checking.strictly is is_too plainly strictly =
+    strictly (one_config words tree command other config second is is_too).one_command
+
 -- what is refused isn't generated
 pub refused_or_generated :
     {some other : Command} {config second : Config} (tree : Tree) (map : List ℕ) (why : Refusal)
-    → SameConfig some other config second → Refuses tree config some why → Opens tree second other
-    → Generates tree second map → ⊥
-refused_or_generated {some} {other} {config} {second} tree map why same is opened generates =
-    refused_or_opened_and_generated tree config some why map is (same_openings tree same opened) (same_generations tree map same generates)
+    → SameConfig some other config second → IsGenerating other → Refuses tree config some why
+    → Opens tree second other → Generates tree second map → ⊥
+refused_or_generated {some} {other} {config} {second} tree map why same generating is opened generates =
+    refused_or_opened_and_generated tree config some why map (subst IsGenerating (sym same.one_command) generating) is
+    (same_openings tree same opened) (same_generations tree map same generates)
 
 -- ---- the tree that is left
 
@@ -133,7 +148,7 @@ paths_of : (words : List (List ℕ)) (tree : Tree) (status : ℕ) (lines : List 
 paths_of words tree status lines files (not_plain text other s l f) = no_paths files f
 paths_of words tree status lines files (refused why is s l f) = no_paths files f
 paths_of words tree status lines files (written command config map is generates wrote s l) = paths_written words tree command config map files is wrote
-paths_of words tree status lines files (checked config map all is holds traces s l f) = no_paths files f
+paths_of words tree status lines files (checked command config map all strict is holds traces says s l f) = no_paths files f
 paths_of words tree status lines files (listed config all is traces s l f) = no_paths files f
 paths_of words tree status lines files (explained path config all asks is traces tells f) = no_paths files f
 paths_of words tree status lines files (vendored to pairs v s l f) = subst ArePaths (sym f) (copied_paths to pairs v.is_plan.goals)
@@ -181,22 +196,27 @@ module _ (words : List (List ℕ)) (tree : Tree) (status other : ℕ) (lines oth
   as_trace all = Ok all
 
   both_checked :
-      (config second : Config) (map map_too : ParsedMap) (all all_too : Gathered) → IsConfigOf words tree Check config
-      → HoldsMap tree config map → traced (get tree) config ≡ Ok all
-      → status ≡ check_status (difference_lines map all)
-      → lines ≡ check_lines (length all.needs) (difference_lines map all) → files ≡ []
-      → IsConfigOf words tree Check second → HoldsMap tree second map_too → traced (get tree) second ≡ Ok all_too
-      → other ≡ check_status (difference_lines map_too all_too)
-      → others ≡ check_lines (length all_too.needs) (difference_lines map_too all_too) → more ≡ []
+      (command command_too : Command) (config second : Config) (map map_too : ParsedMap) (all all_too : Gathered)
+      (strict strict_too : List (List ℕ)) → IsConfigOf words tree command config
+      → HoldsMap tree config map → traced (get tree) config ≡ Ok all → SaysOfModules all command strict
+      → status ≡ check_status (difference_lines map all ++ strict)
+      → lines ≡ check_lines (length all.needs) (difference_lines map all ++ strict) → files ≡ []
+      → IsConfigOf words tree command_too second → HoldsMap tree second map_too
+      → traced (get tree) second ≡ Ok all_too → SaysOfModules all_too command_too strict_too
+      → other ≡ check_status (difference_lines map_too all_too ++ strict_too)
+      → others ≡ check_lines (length all_too.needs) (difference_lines map_too all_too ++ strict_too) → more ≡ []
       → SameEnd status other lines others files more
-  both_checked config second map map_too all all_too is holds traces s l f is_too holds_too traces_too t m g =
-      let configs = (one_config words tree Check Check config second is is_too).one_config in
+  both_checked command command_too config second map map_too all all_too strict strict_too is holds traces says_so s l f is_too holds_too traces_too says_too t m g =
+      let same = one_config words tree command command_too config second is is_too in
+      let configs = same.one_config in
       let maps = one_held tree config map map_too holds (subst (λ c. HoldsMap tree c map_too) (sym configs) holds_too) in
       let both : as_trace all ≡ as_trace all_too = sym traces ∙ (ap (traced (get tree)) configs ∙ traces_too) in
       let alls : all ≡ all_too = cc in
+      let stricts = one_saying all command strict strict_too says_so
+      (subst (λ a. SaysOfModules a command strict_too) (sym alls) (subst (λ c. SaysOfModules all_too c strict_too) (sym same.one_command) says_too)) in
       record {
-        one_status = s ∙ ((λ i. check_status (difference_lines (maps i) (alls i))) ∙ sym t);
-        same_lines = l ∙ ((λ i. check_lines (length (alls i).needs) (difference_lines (maps i) (alls i))) ∙ sym m);
+        one_status = s ∙ ((λ i. check_status (difference_lines (maps i) (alls i) ++ stricts i)) ∙ sym t);
+        same_lines = l ∙ ((λ i. check_lines (length (alls i).needs) (difference_lines (maps i) (alls i) ++ stricts i)) ∙ sym m);
         same_files = f ∙ sym g;
       }
 
@@ -271,13 +291,6 @@ module _ (words : List (List ℕ)) (tree : Tree) (status other : ℕ) (lines oth
       subst SaysCounts (one_config words tree command Vendor config v.config is v.is_config).one_command
       (writes_count tree config map command new wrote)
 
-  -- what is listed isn't checked
-  checked_and_listed :
-      (config second : Config) → IsConfigOf words tree Check config → IsConfigOf words tree Lists second → ⊥
-  checked_and_listed config second is is_too =
-      let same : Check ≡ Lists = (one_config words tree Check Lists config second is is_too).one_command in
-      absurd (cc)
-
   -- what is listed isn't written
   written_and_listed :
       (command : Command) (config second : Config) (map : List ℕ) (new : List NewFile) → IsConfigOf words tree command config
@@ -294,12 +307,6 @@ module _ (words : List (List ℕ)) (tree : Tree) (status other : ℕ) (lines oth
       subst IsGenerating (one_config words tree command Why config second is is_too).one_command
       (writes_generate tree config map command new wrote)
 
-  checked_and_explained :
-      (config second : Config) → IsConfigOf words tree Check config → IsConfigOf words tree Why second → ⊥
-  checked_and_explained config second is is_too =
-      let same : Check ≡ Why = (one_config words tree Check Why config second is is_too).one_command in
-      absurd (cc)
-
   listed_and_explained :
       (config second : Config) → IsConfigOf words tree Lists config → IsConfigOf words tree Why second → ⊥
   listed_and_explained config second is is_too =
@@ -308,11 +315,13 @@ module _ (words : List (List ℕ)) (tree : Tree) (status other : ℕ) (lines oth
 
   -- what is checked isn't written
   written_and_checked :
-      (command : Command) (config second : Config) (map : List ℕ) (new : List NewFile) → IsConfigOf words tree command config
-      → Writes tree config map command new → IsConfigOf words tree Check second → ⊥
-  written_and_checked command config second map new is wrote is_too =
-      subst IsGenerating (one_config words tree command Check config second is is_too).one_command
-      (writes_generate tree config map command new wrote)
+      (command other : Command) (config second : Config) (map : List ℕ) (new : List NewFile)
+      → IsConfigOf words tree command config → Writes tree config map command new → IsChecking other
+      → IsConfigOf words tree other second → ⊥
+  written_and_checked command other config second map new is wrote checks is_too =
+      checking_or_generating other checks
+      (subst IsGenerating (one_config words tree command other config second is is_too).one_command
+      (writes_generate tree config map command new wrote))
 
 -- a measure is no command on a project, and isn't refused for its words
 module _ (words : List (List ℕ)) (tree : Tree) where
@@ -352,12 +361,12 @@ one_run_refusal words tree why because (runs.by_tree command config reason is_co
 one_run_refusal words tree why because (runs.by_copies to config map reason asks is generates refused_so) (runs.by_words other too) = absurd (words_refused_or_config words tree other Vendor config too is)
 one_run_refusal words tree why because (runs.by_copies to config map reason asks is generates refused_so) (runs.by_project other too) = absurd (refused_or_config words tree other Vendor config too is)
 one_run_refusal words tree why because (runs.by_copies to config map reason asks is generates refused_so) (runs.by_tree command second other is_too too) =
-    absurd (refused_or_generated tree map because (one_config words tree command Vendor second config is_too is) too opens.nothing_first generates)
+    absurd (refused_or_generated tree map because (one_config words tree command Vendor second config is_too is) tt too opens.nothing_first generates)
 one_run_refusal words tree why because (runs.by_copies to config map reason asks is generates refused_so) (runs.by_measure number other asks_too too) = absurd (measured_or_config words tree number Vendor config asks_too is)
 one_run_refusal words tree why because (runs.by_words fault is_too) (runs.by_copies to config map reason asks is generates refused_so) = absurd (words_refused_or_config words tree fault Vendor config is_too is)
 one_run_refusal words tree why because (runs.by_project fault is_too) (runs.by_copies to config map reason asks is generates refused_so) = absurd (refused_or_config words tree fault Vendor config is_too is)
 one_run_refusal words tree why because (runs.by_tree command second other is_too too) (runs.by_copies to config map reason asks is generates refused_so) =
-    absurd (refused_or_generated tree map why (one_config words tree command Vendor second config is_too is) too opens.nothing_first generates)
+    absurd (refused_or_generated tree map why (one_config words tree command Vendor second config is_too is) tt too opens.nothing_first generates)
 one_run_refusal words tree why because (runs.by_measure number other asks_too too) (runs.by_copies to config map reason asks is generates refused_so) = absurd (measured_or_config words tree number Vendor config asks_too is)
 one_run_refusal words tree why because (runs.by_copies to config map reason asks is generates refused_so) (runs.by_copies to_too second map_too other asks_too is_too generates_too too) =
     let configs = (one_config words tree Vendor Vendor config second is is_too).one_config in
@@ -384,23 +393,24 @@ pub refused_or_written :
 refused_or_written words tree why command config map (runs.by_words fault is) is_config opened generates counts = words_refused_or_config words tree fault command config is is_config
 refused_or_written words tree why command config map (runs.by_project fault is) is_config opened generates counts = refused_or_config words tree fault command config is is_config
 refused_or_written words tree why command config map (runs.by_tree other second reason is_too is) is_config opened generates counts =
-    refused_or_generated tree map why (one_config words tree other command second config is_too is_config) is opened generates
+    refused_or_generated tree map why (one_config words tree other command second config is_too is_config)
+    (counts_generate command counts) is opened generates
 refused_or_written words tree why command config map (runs.by_measure number reason asks is) is_config opened generates counts = measured_or_config words tree number command config asks is_config
 refused_or_written words tree why command config map (runs.by_copies to second map_too reason asks is generates_too refused_so) is_config opened generates counts =
     subst SaysCounts (one_config words tree command Vendor config second is_config is).one_command counts
 
 refused_or_checked_too :
-    (words : List (List ℕ)) (tree : Tree) (why : Refusal) (config : Config) (map : ParsedMap) (all : Gathered)
-    → RefusesRun words tree why → IsConfigOf words tree Check config → HoldsMap tree config map
-    → traced (get tree) config ≡ Ok all → ⊥
-refused_or_checked_too words tree why config map all (runs.by_words fault is) is_config holds traces = words_refused_or_config words tree fault Check config is is_config
-refused_or_checked_too words tree why config map all (runs.by_project fault is) is_config holds traces = refused_or_config words tree fault Check config is is_config
-refused_or_checked_too words tree why config map all (runs.by_tree other second reason is_too is) is_config holds traces =
-    let same = one_config words tree Check other config second is_config is_too in
-    refused_or_checked tree config why map all (same_refusals tree why same is) holds traces
-refused_or_checked_too words tree why config map all (runs.by_copies to second map_too reason asks is generates refused_so) is_config holds traces =
-    two_commands words tree Check Vendor config second is_config is (λ same. absurd (cc))
-refused_or_checked_too words tree why config map all (runs.by_measure number reason asks is) is_config holds traces = measured_or_config words tree number Check config asks is_config
+    (words : List (List ℕ)) (tree : Tree) (why : Refusal) (command : Command) (config : Config) (map : ParsedMap)
+    (all : Gathered) (strict : List (List ℕ)) → RefusesRun words tree why → IsConfigOf words tree command config
+    → HoldsMap tree config map → traced (get tree) config ≡ Ok all → SaysOfModules all command strict → ⊥
+refused_or_checked_too words tree why command config map all strict (runs.by_words fault is) is_config holds traces says_so = words_refused_or_config words tree fault command config is is_config
+refused_or_checked_too words tree why command config map all strict (runs.by_project fault is) is_config holds traces says_so = refused_or_config words tree fault command config is is_config
+refused_or_checked_too words tree why command config map all strict (runs.by_tree other second reason is_too is) is_config holds traces says_so =
+    let same = one_config words tree command other config second is_config is_too in
+    refused_or_checked tree config command why map all strict says_so (same_refusals tree why same is) holds traces
+refused_or_checked_too words tree why command config map all strict (runs.by_copies to second map_too reason asks is generates refused_so) is_config holds traces says_so =
+    checked_or_other words tree command Vendor config second (says_checking all command strict says_so) is_config is (λ same. absurd (cc)) (λ same. absurd (cc))
+refused_or_checked_too words tree why command config map all strict (runs.by_measure number reason asks is) is_config holds traces says_so = measured_or_config words tree number command config asks is_config
 
 refused_or_listed_too :
     (words : List (List ℕ)) (tree : Tree) (why : Refusal) (config : Config) (all : Gathered)
@@ -434,7 +444,7 @@ refused_or_measured words tree why number map (runs.by_project fault is) asks ge
 refused_or_measured words tree why number map (runs.by_tree command config reason is_config is) asks generates = measured_or_config words tree number command config asks is_config
 refused_or_measured words tree why number map (runs.by_copies to config map_too reason asks_too is generates_too refused_so) asks generates = measured_or_config words tree number Vendor config asks is
 refused_or_measured words tree why number map (runs.by_measure other reason asks_too is) asks generates =
-    refused_or_opened_and_generated (tree_of number) measure_config Refresh why map (same_measure words tree number other why asks asks_too is)
+    refused_or_opened_and_generated (tree_of number) measure_config Refresh why map tt (same_measure words tree number other why asks asks_too is)
     (opens.nothing Refresh mapping.refresh) generates
 
 -- and isn't copied
@@ -444,7 +454,7 @@ pub refused_or_vendored :
 refused_or_vendored words tree why to pairs (runs.by_words fault is) v = words_refused_or_config words tree fault Vendor v.config is v.is_config
 refused_or_vendored words tree why to pairs (runs.by_project fault is) v = refused_or_config words tree fault Vendor v.config is v.is_config
 refused_or_vendored words tree why to pairs (runs.by_tree other second reason is_too is) v =
-    refused_or_generated tree v.map why (one_config words tree other Vendor second v.config is_too v.is_config) is opens.nothing_first v.generates
+    refused_or_generated tree v.map why (one_config words tree other Vendor second v.config is_too v.is_config) tt is opens.nothing_first v.generates
 refused_or_vendored words tree why to pairs (runs.by_measure number reason asks is) v = measured_or_config words tree number Vendor v.config asks v.is_config
 refused_or_vendored words tree why to pairs (runs.by_copies to_too second map reason asks is generates refused_so) v =
     let configs = (one_config words tree Vendor Vendor v.config second v.is_config is).one_config in
@@ -464,24 +474,24 @@ module _ (words : List (List ℕ)) (tree : Tree) (status other : ℕ) (lines oth
       same_refusal words tree status other lines others files more why because (one_run_refusal words tree why because is too) s l f t m g
   both (refused why is s l f) (written command config map is_config generates wrote t m) =
       absurd (refused_or_written words tree why command config map is is_config (written_is_opened tree config map more command wrote) generates (writes_count tree config map command more wrote))
-  both (refused why is s l f) (checked config map all is_config holds traces t m g) =
-      absurd (refused_or_checked_too words tree why config map all is is_config holds traces)
+  both (refused why is s l f) (checked command config map all strict is_config holds traces says_so t m g) =
+      absurd (refused_or_checked_too words tree why command config map all strict is is_config holds traces says_so)
   both (refused why is s l f) (listed config all is_config traces t m g) =
       absurd (refused_or_listed_too words tree why config all is is_config traces)
   both (refused why is s l f) (measured number map asks generates t m g) =
       absurd (refused_or_measured words tree why number map is asks generates)
   both (written command config map is_config generates wrote s l) (measured number map_too asks too t m g) =
       absurd (measured_or_config words tree number command config asks is_config)
-  both (checked config map all is_config holds traces s l f) (measured number map_too asks too t m g) =
-      absurd (measured_or_config words tree number Check config asks is_config)
+  both (checked command config map all strict is_config holds traces says_so s l f) (measured number map_too asks too t m g) =
+      absurd (measured_or_config words tree number command config asks is_config)
   both (listed config all is_config traces s l f) (measured number map_too asks too t m g) =
       absurd (measured_or_config words tree number Lists config asks is_config)
   both (measured number map asks generates s l f) (refused because too t m g) =
       absurd (refused_or_measured words tree because number map too asks generates)
   both (measured number map asks generates s l f) (written command config map_too is_config too wrote t m) =
       absurd (measured_or_config words tree number command config asks is_config)
-  both (measured number map asks generates s l f) (checked config map_too all is_config holds traces t m g) =
-      absurd (measured_or_config words tree number Check config asks is_config)
+  both (measured number map asks generates s l f) (checked command config map_too all strict is_config holds traces says_so t m g) =
+      absurd (measured_or_config words tree number command config asks is_config)
   both (measured number map asks generates s l f) (listed config all is_config traces t m g) =
       absurd (measured_or_config words tree number Lists config asks is_config)
   both (measured number map asks generates s l f) (measured second map_too asks_too too t m g) =
@@ -491,32 +501,32 @@ module _ (words : List (List ℕ)) (tree : Tree) (status other : ℕ) (lines oth
       absurd (refused_or_written words tree because command config map too is_config (written_is_opened tree config map files command wrote) generates (writes_count tree config map command files wrote))
   both (written command config map is_config generates wrote s l) (written command_too second map_too is_too too wrote_too t m) =
       both_written words tree status other lines others files more command command_too config second map map_too is_config generates wrote s l is_too too wrote_too t m
-  both (written command config map is_config generates wrote s l) (checked second map_too all is_too holds traces t m g) =
-      absurd (written_and_checked words tree status other lines others files more command config second map files is_config wrote is_too)
+  both (written command config map is_config generates wrote s l) (checked command_too second map_too all strict is_too holds traces says_so t m g) =
+      absurd (written_and_checked words tree status other lines others files more command command_too config second map files is_config wrote (says_checking all command_too strict says_so) is_too)
   both (written command config map is_config generates wrote s l) (listed second all is_too traces t m g) =
       absurd (written_and_listed words tree status other lines others files more command config second map files is_config wrote is_too)
-  both (checked config map all is_config holds traces s l f) (refused because too t m g) =
-      absurd (refused_or_checked_too words tree because config map all too is_config holds traces)
-  both (checked config map all is_config holds traces s l f) (written command second map_too is_too generates wrote t m) =
-      absurd (written_and_checked words tree status other lines others files more command second config map_too more is_too wrote is_config)
-  both (checked config map all is holds traces s l f) (checked second map_too all_too is_too holds_too traces_too t m g) =
-      both_checked words tree status other lines others files more config second map map_too all all_too is holds traces s l f is_too holds_too traces_too t m g
-  both (checked config map all is holds traces s l f) (listed second all_too is_too traces_too t m g) =
-      absurd (checked_and_listed words tree status other lines others files more config second is is_too)
+  both (checked command config map all strict is_config holds traces says_so s l f) (refused because too t m g) =
+      absurd (refused_or_checked_too words tree because command config map all strict too is_config holds traces says_so)
+  both (checked command config map all strict is_config holds traces says_so s l f) (written command_too second map_too is_too generates wrote t m) =
+      absurd (written_and_checked words tree status other lines others files more command_too command second config map_too more is_too wrote (says_checking all command strict says_so) is_config)
+  both (checked command config map all strict is holds traces says_so s l f) (checked command_too second map_too all_too strict_too is_too holds_too traces_too says_too t m g) =
+      both_checked words tree status other lines others files more command command_too config second map map_too all all_too strict strict_too is holds traces says_so s l f is_too holds_too traces_too says_too t m g
+  both (checked command config map all strict is holds traces says_so s l f) (listed second all_too is_too traces_too t m g) =
+      absurd (checked_or_other words tree command Lists config second (says_checking all command strict says_so) is is_too (λ same. absurd (cc)) (λ same. absurd (cc)))
   both (listed config all is traces s l f) (refused because too t m g) =
       absurd (refused_or_listed_too words tree because config all too is traces)
   both (listed config all is traces s l f) (written command second map_too is_too generates wrote t m) =
       absurd (written_and_listed words tree status other lines others files more command second config map_too more is_too wrote is)
-  both (listed config all is traces s l f) (checked second map_too all_too is_too holds_too traces_too t m g) =
-      absurd (checked_and_listed words tree status other lines others files more second config is_too is)
+  both (listed config all is traces s l f) (checked command second map_too all_too strict is_too holds_too traces_too says_so t m g) =
+      absurd (checked_or_other words tree command Lists second config (says_checking all_too command strict says_so) is_too is (λ same. absurd (cc)) (λ same. absurd (cc)))
   both (listed config all is traces s l f) (listed second all_too is_too traces_too t m g) =
       both_listed words tree status other lines others files more config second all all_too is traces s l f is_too traces_too t m g
   both (refused why is s l f) (explained path config all asks is_config traces tells g) =
       absurd (refused_or_explained_too words tree why config all is is_config traces)
   both (written command config map is generates wrote s l) (explained path second all asks is_too traces tells g) =
       absurd (written_and_explained words tree status other lines others files more command config second map files is wrote is_too)
-  both (checked config map all is holds traces s l f) (explained path second all_too asks is_too traces_too tells g) =
-      absurd (checked_and_explained words tree status other lines others files more config second is is_too)
+  both (checked command config map all strict is holds traces says_so s l f) (explained path second all_too asks is_too traces_too tells g) =
+      absurd (checked_or_other words tree command Why config second (says_checking all command strict says_so) is is_too (λ same. absurd (cc)) (λ same. absurd (cc)))
   both (listed config all is traces s l f) (explained path second all_too asks is_too traces_too tells g) =
       absurd (listed_and_explained words tree status other lines others files more config second is is_too)
   both (measured number map asks generates s l f) (explained path config all asks_why is_config traces tells g) =
@@ -525,8 +535,8 @@ module _ (words : List (List ℕ)) (tree : Tree) (status other : ℕ) (lines oth
       absurd (refused_or_explained_too words tree because config all too is traces)
   both (explained path config all asks is traces tells f) (written command second map is_too generates wrote t m) =
       absurd (written_and_explained words tree status other lines others files more command second config map more is_too wrote is)
-  both (explained path config all asks is traces tells f) (checked second map all_too is_too holds traces_too t m g) =
-      absurd (checked_and_explained words tree status other lines others files more second config is_too is)
+  both (explained path config all asks is traces tells f) (checked command second map all_too strict is_too holds traces_too says_so t m g) =
+      absurd (checked_or_other words tree command Why second config (says_checking all_too command strict says_so) is_too is (λ same. absurd (cc)) (λ same. absurd (cc)))
   both (explained path config all asks is traces tells f) (listed second all_too is_too traces_too t m g) =
       absurd (listed_and_explained words tree status other lines others files more second config is_too is)
   both (explained path config all asks is traces tells f) (measured number map asks_too generates t m g) =
@@ -536,8 +546,8 @@ module _ (words : List (List ℕ)) (tree : Tree) (status other : ℕ) (lines oth
   both (refused why is s l f) (vendored to pairs v t m g) = absurd (refused_or_vendored words tree why to pairs is v)
   both (written command config map is generates wrote s l) (vendored to pairs v t m g) =
       absurd (written_and_vendored words tree status other lines others files more command config map files to pairs is wrote v)
-  both (checked config map all is holds traces s l f) (vendored to pairs v t m g) =
-      absurd (two_commands words tree Check Vendor config v.config is v.is_config (λ same. absurd (cc)))
+  both (checked command config map all strict is holds traces says_so s l f) (vendored to pairs v t m g) =
+      absurd (checked_or_other words tree command Vendor config v.config (says_checking all command strict says_so) is v.is_config (λ same. absurd (cc)) (λ same. absurd (cc)))
   both (listed config all is traces s l f) (vendored to pairs v t m g) =
       absurd (two_commands words tree Lists Vendor config v.config is v.is_config (λ same. absurd (cc)))
   both (explained path config all asks is traces tells f) (vendored to pairs v t m g) =
@@ -547,8 +557,8 @@ module _ (words : List (List ℕ)) (tree : Tree) (status other : ℕ) (lines oth
   both (vendored to pairs v s l f) (refused because too t m g) = absurd (refused_or_vendored words tree because to pairs too v)
   both (vendored to pairs v s l f) (written command config map is generates wrote t m) =
       absurd (written_and_vendored words tree status other lines others files more command config map more to pairs is wrote v)
-  both (vendored to pairs v s l f) (checked config map all is holds traces t m g) =
-      absurd (two_commands words tree Check Vendor config v.config is v.is_config (λ same. absurd (cc)))
+  both (vendored to pairs v s l f) (checked command config map all strict is holds traces says_so t m g) =
+      absurd (checked_or_other words tree command Vendor config v.config (says_checking all command strict says_so) is v.is_config (λ same. absurd (cc)) (λ same. absurd (cc)))
   both (vendored to pairs v s l f) (listed config all is traces t m g) =
       absurd (two_commands words tree Lists Vendor config v.config is v.is_config (λ same. absurd (cc)))
   both (vendored to pairs v s l f) (explained path config all asks is traces tells g) =
@@ -574,7 +584,7 @@ no_meaning_status : (words : List (List ℕ)) (tree : Tree) (status : ℕ) (line
 no_meaning_status words tree status lines files none (not_plain text too s l f) = s
 no_meaning_status words tree status lines files none (refused why is s l f) = absurd (none (run_is_plain words tree why is))
 no_meaning_status words tree status lines files none (written command config map is generates wrote s l) = absurd (none (config_is_plain words tree command config is))
-no_meaning_status words tree status lines files none (checked config map all is holds traces s l f) = absurd (none (config_is_plain words tree Check config is))
+no_meaning_status words tree status lines files none (checked command config map all strict is holds traces says_so s l f) = absurd (none (config_is_plain words tree command config is))
 no_meaning_status words tree status lines files none (explained path config all asks is traces tells f) = absurd (none (config_is_plain words tree Why config is))
 no_meaning_status words tree status lines files none (vendored to pairs v s l f) = absurd (none (config_is_plain words tree Vendor v.config v.is_config))
 no_meaning_status words tree status lines files none (measured number map asks generates s l f) = absurd (none (measured_is_plain words number asks))
@@ -586,250 +596,3 @@ one_status words tree status other lines others after last one two =
       | inl plain ↦ (one_outcome words tree status other lines others after last plain one two).one_status
       | inr none ↦ no_meaning_status words tree status lines one.files none one.comes ∙ sym (no_meaning_status words tree other others two.files none two.comes)
     ]
-
--- ---- some outcome
-
-record CanWrite (tree : Tree) (command : Command) (config : Config) (map : List ℕ) : Type 0 where
-  files : List NewFile
-  after : Tree
-  writes : Writes tree config map command files
-  placed : FilesPlaced tree files after
-
-module _ (words : List (List ℕ)) (tree : Tree) (is_tree : IsTree tree) (unblocked : IsBlocked words tree → ⊥) where
-  -- above a path at which something stands are folders
-  above_stands : (path folder : List ℕ) (entry : Entry) → get tree path ≡ Some entry → IsAbove folder path → get tree folder ≡ Some Directory
-  above_stands _ _ entry is (parent_of above path p) = is_tree.parents above path entry is p
-  above_stands _ _ entry is (further above parent path a p) = folders_above tree parent above is_tree (is_tree.parents parent path entry is p) a
-
-  in_root_above : (path folder : List ℕ) → IsParent (codes "/") path → IsAbove folder path → folder ≡ codes "/"
-  in_root_above path folder parent above =
-      elim (above_by_parent folder (codes "/") path parent above) [
-        | inl same ↦ same
-        | inr higher ↦ absurd (nothing_above_root folder (codes "/") refl higher)
-      ]
-
-  after_map : (map : List ℕ) (folder : List ℕ) → folder ≡ codes "/" → get (insert tree map_path (Stored map)) folder ≡ Some Directory
-  after_map map folder same = ap (get (insert tree map_path (Stored map))) same ∙ (get_other tree map_path (Stored map) (codes "/") (λ e. let n : length (codes "/") ≡ length map_path = ap length e in absurd (omega (arith, n))) ∙ is_tree.root)
-
-  one_file : (path bytes : List ℕ) → ((folder : List ℕ) → IsAbove folder path → get tree folder ≡ Some Directory) → FilesPlaced tree (new_file path bytes ∷ []) (insert tree path (Stored bytes))
-  one_file path bytes folders = (insert tree path (Stored bytes), inserted_places tree path (Stored bytes) folders, refl)
-
-  above_map : (folder : List ℕ) → IsAbove folder map_path → get tree folder ≡ Some Directory
-  above_map folder above = ap (get tree) (in_root_above map_path folder map_in_root above) ∙ is_tree.root
-
-  two_files : (config : Config) (map : List ℕ) → FilesPlaced tree (map_and_project config map) (insert (insert tree map_path (Stored map)) project_path (Stored (project_text config)))
-  two_files config map = (
-    insert tree map_path (Stored map),
-    inserted_places tree map_path (Stored map) above_map,
-    (
-      insert (insert tree map_path (Stored map)) project_path (Stored (project_text config)),
-      inserted_places (insert tree map_path (Stored map)) project_path (Stored (project_text config)) (λ folder above. after_map map folder (in_root_above project_path folder project_in_root above)),
-      refl,
-    ),
-  )
-
-  by_why : (why : Refusal) → RefusesRun words tree why → HasOutcome words tree
-  by_why why is = record {
-    status = status_of why;
-    lines = line_of why ∷ [];
-    after = tree;
-    outcome = record { files = []; comes = refused why is refl refl refl; placed = refl };
-  }
-
-  no_meaning : (IsPlain words → ⊥) → HasOutcome words tree
-  no_meaning none = record {
-    status = 2;
-    lines = [] ∷ [];
-    after = tree;
-    outcome = record { files = []; comes = not_plain [] none refl refl refl; placed = refl };
-  }
-
-  module _ (command : Command) (config : Config) (is : IsConfigOf words tree command config) where
-    by_refusal : (why : Refusal) → Refuses tree config command why → HasOutcome words tree
-    by_refusal why refused_so = by_why why (runs.by_tree command config why is refused_so)
-
-    by_files : (map : List ℕ) → Generates tree config map → CanWrite tree command config map → HasOutcome words tree
-    by_files map generates can = record {
-      status = 0;
-      lines = done_line generates.all generates.layout ∷ [];
-      after = can.after;
-      outcome = record { files = can.files; comes = written command config map is generates can.writes refl refl; placed = can.placed };
-    }
-
-    by_map : IsGenerating command → Opens tree config command → ((map : List ℕ) → CanWrite tree command config map) → (map : List ℕ) → Generates tree config map ⊎ IsTooWide tree config ⊎ IsTooLarge tree config → HasOutcome words tree
-    by_map generating opened can map (inr (inl wide)) = by_refusal (Limit Choices) (refuses.many_choices command generating opened wide)
-    by_map generating opened can map (inr (inr large)) = by_refusal (Limit Map) (refuses.large_map command generating opened large)
-    by_map generating opened can map (inl generates) = by_files map generates (can map)
-
-    by_generation : IsGenerating command → Opens tree config command → ((map : List ℕ) → CanWrite tree command config map) → (all : Gathered) → traced (get tree) config ≡ Ok all → HasOutcome words tree
-    by_generation generating opened can all e =
-        let found = some_generation tree config all e in
-        by_map generating opened can found.0 found.2
-
-  by_check : (config : Config) → IsConfigOf words tree Check config → (map : ParsedMap) → HoldsMap tree config map → (all : Gathered) → traced (get tree) config ≡ Ok all → HasOutcome words tree
-  by_check config is map holds all e = record {
-    status = check_status (difference_lines map all);
-    lines = check_lines (length all.needs) (difference_lines map all);
-    after = tree;
-    outcome = record { files = []; comes = checked config map all is holds e refl refl refl; placed = refl };
-  }
-
-  by_list : (config : Config) → IsConfigOf words tree Lists config → (all : Gathered) → traced (get tree) config ≡ Ok all → HasOutcome words tree
-  by_list config is all e = record {
-    status = 0;
-    lines = list_lines all;
-    after = tree;
-    outcome = record { files = []; comes = listed config all is e refl refl refl; placed = refl };
-  }
-
-  by_chain :
-      (config : Config) → IsConfigOf words tree Why config → (all : Gathered) → traced (get tree) config ≡ Ok all
-      → (path : List ℕ) → AsksWhy words path → Explanation (get tree) config path → HasOutcome words tree
-  by_chain config is all e path asks found = record {
-    status = found.status;
-    lines = found.lines;
-    after = tree;
-    outcome = record { files = []; comes = explained path config all asks is e found.tells refl; placed = refl };
-  }
-
-  by_explanation : (config : Config) → IsConfigOf words tree Why config → (all : Gathered) → traced (get tree) config ≡ Ok all → HasOutcome words tree
-  by_explanation config is all e =
-      let file = why_explains is.asked is.is in
-      by_chain config is all e file.path (subst (Asks words) file.is is.asks)
-      (some_explanation (get tree) config file.path all e)
-
-  module _ (to : List ℕ) (asks : VendorsTo words to) (config : Config) (is : IsConfigOf words tree Vendor config)
-      (map : List ℕ) (generates : Generates tree config map) where
-    abbrev paths : List (List ℕ)
-    paths = generation_paths tree config
-
-    not_copied : (why : Refusal) → RefusesCopies tree to paths why → HasOutcome words tree
-    not_copied why refused_so = by_why why (runs.by_copies to config map why asks is generates refused_so)
-
-    copied : get tree to ≡ None → (pairs : List Pair) → IsPlan tree to paths pairs → Vendors words tree to pairs
-    copied free pairs plan = record {
-      asks = asks;
-      config = config;
-      is_config = is;
-      map = map;
-      generates = generates;
-      free = free;
-      is_plan = plan;
-    }
-
-    by_copies : (to_is : IsPath to) (to_deep : to ≢ codes "/") (free : get tree to ≡ None) (pairs : List Pair)
-        → IsPlan tree to paths pairs → HasOutcome words tree
-    by_copies to_is to_deep free [] plan = record {
-      status = 0;
-      lines = vendored_line 0 ∷ [];
-      after = tree;
-      outcome = record { files = []; comes = vendored to [] (copied free [] plan) refl refl refl; placed = refl };
-    }
-    by_copies to_is to_deep free (pair ∷ more) plan =
-        let blocked = λ (file bytes : List ℕ) (stands : get tree file ≡ Some (Stored bytes)) (above : IsAbove file to).
-        unblocked (record {
-          to = to;
-          pair = pair;
-          more = more;
-          vendors = copied free (pair ∷ more) plan;
-          file = file;
-          bytes = bytes;
-          stands = stands;
-          above = above;
-        }) in
-        let made = some_copied tree to paths (pair ∷ more) is_tree to_is to_deep free blocked plan in
-        record {
-          status = 0;
-          lines = vendored_line (length (pair ∷ more)) ∷ [];
-          after = made.0;
-          outcome =
-              record {
-                files = copied_files to (pair ∷ more);
-                comes = vendored to (pair ∷ more) (copied free (pair ∷ more) plan) refl refl refl;
-                placed = files_placed to (pair ∷ more) tree made.0 made.1;
-              };
-        }
-
-    by_folder : (to_is : IsPath to) (to_deep : to ≢ codes "/") (found : Option Entry) → get tree to ≡ found → HasOutcome words tree
-    by_folder to_is to_deep (Some entry) e = not_copied (Occupied to) (copies.occupied entry e)
-    by_folder to_is to_deep None e =
-        elim (some_plan tree to paths is_tree to_is to_deep) [
-          | inl has ↦ not_copied PathTooLong (copies.long e has)
-          | inr more ↦ elim more [
-            | inl has ↦ not_copied TooManySegments (copies.deep e has.0 has.1)
-            | inr plan ↦ by_copies to_is to_deep e plan.0 plan.1
-          ]
-        ]
-
-  by_vendor : (config : Config) → IsConfigOf words tree Vendor config → (all : Gathered) → traced (get tree) config ≡ Ok all → HasOutcome words tree
-  by_vendor config is all e =
-      let found = some_generation tree config all e in by_generated found.0 found.2
-    where
-      by_generated : (map : List ℕ) → Generates tree config map ⊎ IsTooWide tree config ⊎ IsTooLarge tree config → HasOutcome words tree
-      by_generated map (inr (inl wide)) = by_refusal Vendor config is (Limit Choices) (refuses.many_choices Vendor tt opens.nothing_first wide)
-      by_generated map (inr (inr large)) = by_refusal Vendor config is (Limit Map) (refuses.large_map Vendor tt opens.nothing_first large)
-      by_generated map (inl generates) =
-          let folder = vendor_copies is.asked is.is in
-          let own = path_vendored folder.path Vendor (subst (λ a. command_of a ≡ Some Vendor) folder.is is.is) in
-          by_folder folder.path (subst (Asks words) folder.is is.asks) config is map generates own.is_path own.no_root (get tree folder.path) refl
-
-  by_trace : (command : Command) (config : Config) → IsConfigOf words tree command config → (opened : Opens tree config command) → (all : Gathered) → traced (get tree) config ≡ Ok all → HasOutcome words tree
-  by_trace command config is (opens.nothing _ mapping.link) all e =
-      by_generation command config is tt (opens.nothing Link mapping.link)
-      (λ map. record { files = _; after = _; writes = writes.linked; placed = two_files config map }) all e
-  by_trace command config is (opens.nothing _ mapping.unlink) all e =
-      by_generation command config is tt (opens.nothing Unlink mapping.unlink)
-      (λ map. record { files = _; after = _; writes = writes.unlinked; placed = two_files config map }) all e
-  by_trace command config is (opens.nothing _ mapping.refresh) all e =
-      by_generation command config is tt (opens.nothing Refresh mapping.refresh)
-      (λ map. record { files = _; after = _; writes = writes.refreshed; placed = one_file map_path map above_map }) all e
-  by_trace command config is (opens.page page stands takes) all e =
-      by_generation command config is tt (opens.page page stands takes)
-      (λ map. record {
-        files = _;
-        after = _;
-        writes = writes.in_page page (takes map).new stands (takes map).injection;
-        placed = one_file config.page (takes map).new (λ folder above. above_stands config.page folder (Stored page) stands.stands above);
-      }) all e
-  by_trace command config is (opens.has_map map holds) all e = by_check config is map holds all e
-  by_trace command config is opens.no_file all e = by_list config is all e
-  by_trace command config is opens.no_other_file all e = by_explanation config is all e
-  by_trace command config is opens.nothing_first all e = by_vendor config is all e
-  by_trace command config is (opens.no_base text stands nameless) all e = absurd (traced_is_named (get tree) config all nameless e)
-
-  by_result : (command : Command) (config : Config) → IsConfigOf words tree command config → Opens tree config command → (found : Result Gathered TraceFault) → traced (get tree) config ≡ found → HasOutcome words tree
-  by_result command config is opened (Err fault) e = by_refusal command config is (Trace fault) (refuses.trace command fault opened e)
-  by_result command config is opened (Ok all) e = by_trace command config is opened all e
-
-  by_opening : (command : Command) (config : Config) → IsConfigOf words tree command config → Opens tree config command ⊎ Refused tree config command → HasOutcome words tree
-  by_opening command config is (inl opened) = by_result command config is opened (traced (get tree) config) refl
-  by_opening command config is (inr none) = by_refusal command config is none.why none.refuses
-
-  module _ (number : ℕ) (asks : Measures words number) where
-    by_measured : (map : List ℕ)
-        → Generates (tree_of number) measure_config map ⊎ IsTooWide (tree_of number) measure_config ⊎ IsTooLarge (tree_of number) measure_config → HasOutcome words tree
-    by_measured map (inr (inl wide)) = by_why (Limit Choices) (runs.by_measure number (Limit Choices) asks (refuses.many_choices Refresh tt (opens.nothing Refresh mapping.refresh) wide))
-    by_measured map (inr (inr large)) = by_why (Limit Map) (runs.by_measure number (Limit Map) asks (refuses.large_map Refresh tt (opens.nothing Refresh mapping.refresh) large))
-    by_measured map (inl generates) = record {
-      status = 0;
-      lines = measured_line number generates.all generates.layout ∷ [];
-      after = tree;
-      outcome = record { files = []; comes = measured number map asks generates refl refl refl; placed = refl };
-    }
-
-    by_measure : (found : Result Gathered TraceFault) → traced (get (tree_of number)) measure_config ≡ found → HasOutcome words tree
-    by_measure (Err fault) e = by_why (Trace fault) (runs.by_measure number (Trace fault) asks (refuses.trace Refresh fault (opens.nothing Refresh mapping.refresh) e))
-    by_measure (Ok all) e =
-        let found = some_generation (tree_of number) measure_config all e in
-        by_measured found.0 found.2
-
-  by_judgement : (IsSession words → ⊥) → Judged words tree → HasOutcome words tree
-  by_judgement other (judgement.session asks) = absurd (other asks)
-  by_judgement other (judgement.measured number asks) = by_measure number asks (traced (get (tree_of number)) measure_config) refl
-  by_judgement other (judgement.not_plain none) = no_meaning none
-  by_judgement other (judgement.words_refused fault is) = by_why (Configured fault) (runs.by_words fault is)
-  by_judgement other (judgement.config_refused fault is) = by_why (Configured fault) (runs.by_project fault is)
-  by_judgement other (judgement.configured command config is) = by_opening command config is (opened_or_refused tree config command)
-
-pub some_outcome : SomeOutcome
-some_outcome words tree other unblocked is_tree = by_judgement words tree is_tree unblocked other (judged words tree)

@@ -24,7 +24,7 @@ use Rattle.trace_spec.specs.Walking.{the_page}
 use Rattle.trace_spec.specs.Checks.{Gathered}
 use Rattle.trace_spec.specs.Traces.{traced}
 use Rattle.config_spec.specs.declared.Command.{Command}
-use Rattle.config_spec.specs.declared.Command.TheVariants.{Link, Unlink, Refresh, Inject, Check, Why, Vendor}
+use Rattle.config_spec.specs.declared.Command.TheVariants.{Link, Unlink, Refresh, Inject, Check, CheckStrictly, Why, Vendor}
 use Rattle.config_spec.specs.declared.Command.TheVariants.{List as Lists}
 use Rattle.generator_spec.specs.declared.MapFileFault.{MapFileFault}
 use Rattle.generator_spec.specs.declared.MapFileFault.TheVariants as map_file
@@ -34,10 +34,13 @@ use Rattle.generator_spec.specs.declared.Refusal.{Refusal}
 use Rattle.generator_spec.specs.declared.Refusal.TheVariants.{Page, MapFile}
 use Rattle.generator_spec.specs.Commands.{IsPage, RefusesPage, map_path, map_file_limit, IsMapText, ReadsMap, HoldsMap, map_file_fault}
 use Rattle.generator_spec.specs.Commands.{RefusesMapFile, RefusesMapFile as refuses_map, Opens, Refuses, NewFile, new_file, Writes}
-use Rattle.generator_spec.specs.Commands.{IsMapping as mapping}
+use Rattle.generator_spec.specs.Commands.{IsChecking, IsChecking as checking, IsGenerating, IsMapping as mapping}
 use Rattle.generator_spec.specs.Commands.{RefusesPage as refuses_page, Opens as opens, Refuses as refuses, Writes as writes}
+use Rattle.generator_spec.specs.Checking.{SaysOfModules, SaysOfModules as says}
 use Rattle.generator_spec.specs.Generation.{Generates, IsTooWide, IsTooLarge}
+use Rattle.generator_spec.specs.Strictness.{AreSaid, IsNested}
 use Rattle.generator_spec.proofs.Generations.{same_trace, nothing_refused}
+use Rattle.generator_spec.proofs.Strictnesses.{checking_or_generating, one_answers}
 
 -- ---- pages
 
@@ -105,6 +108,8 @@ module _ (tree : Tree) (config : Config) where
 
   refused_or_opened : (fault : PageFault) → RefusesPage tree config fault → Opens tree config Inject → ⊥
   refused_or_opened fault refused (opens.nothing _ is) = elim is [ ]
+  refused_or_opened fault refused (opens.has_map _ checks map holds) = elim checks [ ]
+  refused_or_opened fault refused (opens.no_base _ checks text is nameless) = elim checks [ ]
   refused_or_opened fault refused (opens.page page is takes) = let put = takes [] in refused_takes_none fault [] page put.new refused is put.injection
 
   -- ---- the map's file
@@ -167,10 +172,13 @@ module _ (tree : Tree) (config : Config) where
       let same : None ≡ Some reads.base = sym nameless ∙ reads.named in
       absurd (cc)
 
-  map_refused_or_opened : (fault : MapFileFault) → RefusesMapFile tree config fault → Opens tree config Check → ⊥
-  map_refused_or_opened fault refused (opens.nothing _ is) = elim is [ ]
-  map_refused_or_opened fault refused (opens.has_map map holds) = no_map_text fault holds.text map refused holds.stands holds.reads
-  map_refused_or_opened fault refused (opens.no_base text is nameless) = no_base_text fault text refused is nameless
+  map_refused_or_opened : (command : Command) (fault : MapFileFault) → IsChecking command → RefusesMapFile tree config fault → Opens tree config command → ⊥
+  map_refused_or_opened command fault checking.plainly refused (opens.nothing _ is) = elim is [ ]
+  map_refused_or_opened command fault checking.plainly refused (opens.has_map _ checks map holds) = no_map_text fault holds.text map refused holds.stands holds.reads
+  map_refused_or_opened command fault checking.plainly refused (opens.no_base _ checks text is nameless) = no_base_text fault text refused is nameless
+  map_refused_or_opened command fault checking.strictly refused (opens.nothing _ is) = elim is [ ]
+  map_refused_or_opened command fault checking.strictly refused (opens.has_map _ checks map holds) = no_map_text fault holds.text map refused holds.stands holds.reads
+  map_refused_or_opened command fault checking.strictly refused (opens.no_base _ checks text is nameless) = no_base_text fault text refused is nameless
 
   -- a map's file is read as one map
   pub one_held : (map other : ParsedMap) → HoldsMap tree config map → HoldsMap tree config other → map ≡ other
@@ -190,6 +198,11 @@ module _ (tree : Tree) (config : Config) where
       let both : Ok wide.all ≡ Err fault = sym traces ∙ e in
       absurd (cc)
 
+  traced_or_refused : (fault : TraceFault) (all : Gathered) → traced (get tree) config ≡ Ok all → traced (get tree) config ≡ Err fault → ⊥
+  traced_or_refused fault all traces e =
+      let both : Ok all ≡ Err fault = sym traces ∙ e in
+      absurd (cc)
+
   wide_or_large : IsTooWide tree config → IsTooLarge tree config → ⊥
   wide_or_large wide large =
       large.few (subst (λ (g : Gathered). HasTooManyChoices g.needs) (same_trace (traced (get tree) config) wide.all large.all wide.is_traced large.is_traced) wide.many)
@@ -198,11 +211,22 @@ module _ (tree : Tree) (config : Config) where
   one_refusal command why because (refuses.page fault is) (refuses.page other too) = ap Page (one_page_fault fault other is too)
   one_refusal command why because (refuses.page fault is) (refuses.trace same other opened e) = absurd (refused_or_opened fault is opened)
   one_refusal command why because (refuses.trace same fault opened e) (refuses.page other too) = absurd (refused_or_opened other too opened)
-  one_refusal command why because (refuses.map_file fault is) (refuses.map_file other too) = ap MapFile (one_map_file_fault fault other is too)
-  one_refusal command why because (refuses.map_file fault is) (refuses.trace same other opened e) = absurd (map_refused_or_opened fault is opened)
-  one_refusal command why because (refuses.map_file fault is) (refuses.large_map same generating opened large) = absurd generating
-  one_refusal command why because (refuses.trace same fault opened e) (refuses.map_file other too) = absurd (map_refused_or_opened other too opened)
-  one_refusal command why because (refuses.large_map same generating opened large) (refuses.map_file other too) = absurd generating
+  one_refusal command why because (refuses.page fault is) (refuses.map_file _ other checks too) = elim checks [ ]
+  one_refusal command why because (refuses.map_file _ other checks too) (refuses.page fault is) = elim checks [ ]
+  one_refusal command why because (refuses.map_file same fault checks is) (refuses.map_file same_too other checks_too too) = ap MapFile (one_map_file_fault fault other is too)
+  one_refusal command why because (refuses.map_file same fault checks is) (refuses.trace same_too other opened e) = absurd (map_refused_or_opened command fault checks is opened)
+  one_refusal command why because (refuses.map_file same fault checks is) (refuses.large_map same_too generating opened large) = absurd (checking_or_generating command checks generating)
+  one_refusal command why because (refuses.trace same fault opened e) (refuses.map_file same_too other checks too) = absurd (map_refused_or_opened command other checks too opened)
+  one_refusal command why because (refuses.large_map same generating opened large) (refuses.map_file same_too other checks too) = absurd (checking_or_generating command checks generating)
+  one_refusal command why because (refuses.map_file same fault checks is) (refuses.nested map all answers holds traces are deep) = absurd (no_map_text fault holds.text map is holds.stands holds.reads)
+  one_refusal command why because (refuses.nested map all answers holds traces are deep) (refuses.map_file same fault checks is) = absurd (no_map_text fault holds.text map is holds.stands holds.reads)
+  one_refusal command why because (refuses.trace same fault opened e) (refuses.nested map all answers holds traces are deep) = absurd (traced_or_refused fault all traces e)
+  one_refusal command why because (refuses.nested map all answers holds traces are deep) (refuses.trace same fault opened e) = absurd (traced_or_refused fault all traces e)
+  one_refusal command why because (refuses.many_choices same generating opened wide) (refuses.nested map all answers holds traces are deep) = absurd generating
+  one_refusal command why because (refuses.nested map all answers holds traces are deep) (refuses.many_choices same generating opened wide) = absurd generating
+  one_refusal command why because (refuses.large_map same generating opened large) (refuses.nested map all answers holds traces are deep) = absurd generating
+  one_refusal command why because (refuses.nested map all answers holds traces are deep) (refuses.large_map same generating opened large) = absurd generating
+  one_refusal command why because (refuses.nested map all answers holds traces are deep) (refuses.nested map_too all_too answers_too holds_too traces_too are_too deep_too) = refl
   one_refusal command why because (refuses.trace same fault opened e) (refuses.trace same_too other opened_too f) =
       let faults : ◌≡◌ {A = Result Gathered TraceFault} (Err fault) (Err other) = sym e ∙ f in
       cc
@@ -213,8 +237,8 @@ module _ (tree : Tree) (config : Config) where
   one_refusal command why because (refuses.large_map same generating opened large) (refuses.large_map same_too generating_too opened_too large_too) = refl
   one_refusal command why because (refuses.page fault is) (refuses.many_choices same generating opened wide) = absurd (refused_or_opened fault is opened)
   one_refusal command why because (refuses.many_choices same generating opened wide) (refuses.page other too) = absurd (refused_or_opened other too opened)
-  one_refusal command why because (refuses.map_file fault is) (refuses.many_choices same generating opened wide) = absurd generating
-  one_refusal command why because (refuses.many_choices same generating opened wide) (refuses.map_file other too) = absurd generating
+  one_refusal command why because (refuses.map_file same fault checks is) (refuses.many_choices same_too generating opened wide) = absurd (checking_or_generating command checks generating)
+  one_refusal command why because (refuses.many_choices same generating opened wide) (refuses.map_file same_too other checks too) = absurd (checking_or_generating command checks generating)
   one_refusal command why because (refuses.trace same fault opened e) (refuses.many_choices same_too generating_too opened_too wide) = absurd (wide_or_traced fault wide e)
   one_refusal command why because (refuses.many_choices same generating opened wide) (refuses.trace same_too other opened_too f) = absurd (wide_or_traced other wide f)
   one_refusal command why because (refuses.many_choices same generating opened wide) (refuses.large_map same_too generating_too opened_too large) = absurd (wide_or_large wide large)
@@ -222,22 +246,30 @@ module _ (tree : Tree) (config : Config) where
   one_refusal command why because (refuses.many_choices same generating opened wide) (refuses.many_choices same_too generating_too opened_too wide_too) = refl
 
   -- what is refused isn't done
-  pub refused_or_opened_and_generated : (command : Command) (why : Refusal) (map : List ℕ) → Refuses tree config command why → Opens tree config command → Generates tree config map → ⊥
-  refused_or_opened_and_generated command why map (refuses.page fault is) opened generates = refused_or_opened fault is opened
-  refused_or_opened_and_generated command why map (refuses.map_file fault is) opened generates = map_refused_or_opened fault is opened
-  refused_or_opened_and_generated command why map (refuses.trace same fault before e) opened generates = (nothing_refused tree config map generates).0 fault e
-  refused_or_opened_and_generated command why map (refuses.many_choices same generating before wide) opened generates = (nothing_refused tree config map generates).1 wide
-  refused_or_opened_and_generated command why map (refuses.large_map same generating before large) opened generates = (nothing_refused tree config map generates).2 large
+  pub refused_or_opened_and_generated : (command : Command) (why : Refusal) (map : List ℕ) → IsGenerating command → Refuses tree config command why → Opens tree config command → Generates tree config map → ⊥
+  refused_or_opened_and_generated command why map generated_so (refuses.page fault is) opened generates = refused_or_opened fault is opened
+  refused_or_opened_and_generated command why map generated_so (refuses.map_file same fault checks is) opened generates = map_refused_or_opened command fault checks is opened
+  refused_or_opened_and_generated command why map generated_so (refuses.trace same fault before e) opened generates = (nothing_refused tree config map generates).0 fault e
+  refused_or_opened_and_generated command why map generated_so (refuses.many_choices same generating before wide) opened generates = (nothing_refused tree config map generates).1 wide
+  refused_or_opened_and_generated command why map generated_so (refuses.large_map same generating before large) opened generates = (nothing_refused tree config map generates).2 large
+  refused_or_opened_and_generated command why map generated_so (refuses.nested held all answers holds traces are deep) opened generates = generated_so
 
-  pub refused_or_checked : (why : Refusal) (map : ParsedMap) (all : Gathered) → Refuses tree config Check why → HoldsMap tree config map → traced (get tree) config ≡ Ok all → ⊥
-  refused_or_checked why map all (refuses.map_file fault is) holds traces = no_map_text fault holds.text map is holds.stands holds.reads
-  refused_or_checked why map all (refuses.trace same fault before e) holds traces =
-      let both : Ok all ≡ Err fault = sym traces ∙ e in
-      absurd (cc)
-  refused_or_checked why map all (refuses.many_choices same generating before wide) holds traces = generating
-  refused_or_checked why map all (refuses.large_map same generating before large) holds traces = generating
+  pub refused_or_checked : (command : Command) (why : Refusal) (map : ParsedMap) (all : Gathered) (strict : List (List ℕ)) → SaysOfModules all command strict → Refuses tree config command why → HoldsMap tree config map → traced (get tree) config ≡ Ok all → ⊥
+  refused_or_checked command why map all strict says.unasked (refuses.map_file same fault checks is) holds traces = no_map_text fault holds.text map is holds.stands holds.reads
+  refused_or_checked command why map all strict says.unasked (refuses.trace same fault before e) holds traces = traced_or_refused fault all traces e
+  refused_or_checked command why map all strict says.unasked (refuses.many_choices same generating before wide) holds traces = generating
+  refused_or_checked command why map all strict says.unasked (refuses.large_map same generating before large) holds traces = generating
+  refused_or_checked command why map all strict (says.strictly answers are none) (refuses.map_file same fault checks is) holds traces = no_map_text fault holds.text map is holds.stands holds.reads
+  refused_or_checked command why map all strict (says.strictly answers are none) (refuses.trace same fault before e) holds traces = traced_or_refused fault all traces e
+  refused_or_checked command why map all strict (says.strictly answers are none) (refuses.many_choices same generating before wide) holds traces = generating
+  refused_or_checked command why map all strict (says.strictly answers are none) (refuses.large_map same generating before large) holds traces = generating
+  refused_or_checked command why map all strict (says.strictly answers are none) (refuses.nested map_too all_too answers_too holds_too traces_too are_too deep) holds traces =
+      let same = same_trace (traced (get tree) config) all_too all traces_too traces in
+      let answers_same = one_answers all.sources answers_too answers (subst (λ (g : Gathered). AreSaid g.sources answers_too) same are_too) are in
+      none (subst IsNested answers_same deep)
 
   pub refused_or_listed : (why : Refusal) (all : Gathered) → Refuses tree config Lists why → traced (get tree) config ≡ Ok all → ⊥
+  refused_or_listed why all (refuses.map_file _ fault checks is) traces = elim checks [ ]
   refused_or_listed why all (refuses.trace same fault before e) traces =
       let both : Ok all ≡ Err fault = sym traces ∙ e in
       absurd (cc)
@@ -245,6 +277,7 @@ module _ (tree : Tree) (config : Config) where
   refused_or_listed why all (refuses.large_map same generating before large) traces = generating
 
   pub refused_or_explained : (why : Refusal) (all : Gathered) → Refuses tree config Why why → traced (get tree) config ≡ Ok all → ⊥
+  refused_or_explained why all (refuses.map_file _ fault checks is) traces = elim checks [ ]
   refused_or_explained why all (refuses.trace same fault before e) traces =
       let both : Ok all ≡ Err fault = sym traces ∙ e in
       absurd (cc)
@@ -284,33 +317,36 @@ module _ (tree : Tree) (config : Config) where
         | inr small ↦ by_page page (record { stands = e; small = small })
       ]
 
-  map_refused : (fault : MapFileFault) → RefusesMapFile tree config fault → Refused Check
-  map_refused fault is = record { why = MapFile fault; refuses = refuses.map_file fault is }
+  module _ (command : Command) (checks : IsChecking command) where
+    map_refused : (fault : MapFileFault) → RefusesMapFile tree config fault → Refused command
+    map_refused fault is = record { why = MapFile fault; refuses = refuses.map_file command fault checks is }
 
-  by_outcome : (text base : List ℕ) → IsMapText tree text → web_name config the_page ≡ Some base → (out : Result ParsedMap MapFault) → ParsesMap base text out → Opens tree config Check ⊎ Refused Check
-  by_outcome text base is named (Ok map) parses = inl (opens.has_map map (record { text = text; stands = is; reads = record { base = base; named = named; parses = parses } }))
-  by_outcome text base is named (Err fault) parses =
-      inr (map_refused (map_file_fault fault) (refuses_map.no_map text fault is (record { base = base; named = named; parses = parses }) refl))
+    by_outcome : (text base : List ℕ) → IsMapText tree text → web_name config the_page ≡ Some base → (out : Result ParsedMap MapFault) → ParsesMap base text out → Opens tree config command ⊎ Refused command
+    by_outcome text base is named (Ok map) parses =
+        inl (opens.has_map command checks map (record { text = text; stands = is; reads = record { base = base; named = named; parses = parses } }))
+    by_outcome text base is named (Err fault) parses =
+        inr (map_refused (map_file_fault fault) (refuses_map.no_map text fault is (record { base = base; named = named; parses = parses }) refl))
 
-  by_name : (text : List ℕ) → IsMapText tree text → (name : Option (List ℕ)) → web_name config the_page ≡ name → Opens tree config Check ⊎ Refused Check
-  by_name text is None nameless = inl (opens.no_base text is nameless)
-  by_name text is (Some base) named = let read = some_map base text in by_outcome text base is named read.0 read.1
+    by_name : (text : List ℕ) → IsMapText tree text → (name : Option (List ℕ)) → web_name config the_page ≡ name → Opens tree config command ⊎ Refused command
+    by_name text is None nameless = inl (opens.no_base command checks text is nameless)
+    by_name text is (Some base) named = let read = some_map base text in by_outcome text base is named read.0 read.1
 
-  by_map_entry : (entry : Option Entry) → map_found ≡ entry → Opens tree config Check ⊎ Refused Check
-  by_map_entry None e = inr (map_refused map_file.Absent (refuses_map.absent e refl))
-  by_map_entry (Some Directory) e = inr (map_refused map_file.Absent (refuses_map.folder e refl))
-  by_map_entry (Some (Stored text)) e =
-      elim (cases_lt map_file_limit (length text)) [
-        | inl large ↦ inr (map_refused map_file.TooLarge (refuses_map.too_large text e large refl))
-        | inr small ↦ by_name text (record { stands = e; small = small }) (web_name config the_page) refl
-      ]
+    by_map_entry : (entry : Option Entry) → map_found ≡ entry → Opens tree config command ⊎ Refused command
+    by_map_entry None e = inr (map_refused map_file.Absent (refuses_map.absent e refl))
+    by_map_entry (Some Directory) e = inr (map_refused map_file.Absent (refuses_map.folder e refl))
+    by_map_entry (Some (Stored text)) e =
+        elim (cases_lt map_file_limit (length text)) [
+          | inl large ↦ inr (map_refused map_file.TooLarge (refuses_map.too_large text e large refl))
+          | inr small ↦ by_name text (record { stands = e; small = small }) (web_name config the_page) refl
+        ]
 
   pub opened_or_refused : (command : Command) → Opens tree config command ⊎ Refused command
   opened_or_refused Link = inl (opens.nothing Link mapping.link)
   opened_or_refused Unlink = inl (opens.nothing Unlink mapping.unlink)
   opened_or_refused Refresh = inl (opens.nothing Refresh mapping.refresh)
   opened_or_refused Inject = by_entry found refl
-  opened_or_refused Check = by_map_entry map_found refl
+  opened_or_refused Check = by_map_entry Check checking.plainly map_found refl
+  opened_or_refused CheckStrictly = by_map_entry CheckStrictly checking.strictly map_found refl
   opened_or_refused Lists = inl opens.no_file
   opened_or_refused Why = inl opens.no_other_file
   opened_or_refused Vendor = inl opens.nothing_first

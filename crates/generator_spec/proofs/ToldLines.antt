@@ -11,6 +11,7 @@ use Rattle.page_spec.specs.declared.kinds.InjectFault.TheVariants as page
 use Rattle.trace_spec.specs.declared.TraceFault.{TraceFault}
 use Rattle.trace_spec.specs.declared.TraceFault.TheVariants as fault
 use Rattle.trace_spec.specs.Modules.{Config}
+use Rattle.config_spec.specs.declared.Command.{Command}
 use Rattle.config_spec.specs.declared.ConfigFault.{ConfigFault}
 use Rattle.config_spec.specs.declared.ConfigFault.TheVariants as config
 use Rattle.config_spec.specs.declared.ProjectFault.{ProjectFault}
@@ -26,6 +27,7 @@ use Rattle.generator_spec.specs.Lines.{project_line, config_line, page_line, map
 use Rattle.generator_spec.specs.Lines.{memory_line, read_fault_line, write_fault_line, not_reached_line}
 use Rattle.generator_spec.specs.Ending.{IsDone, IsDifference, IsChecked, Gives, Shaped, Says, Ends, Shaped as shaped, Says as says, Ends as ends}
 use Rattle.generator_spec.specs.Ending.{TellsChain, TellsChain as chain}
+use Rattle.generator_spec.specs.Ending.{IsStrictLine, IsStrictLine as stricts, AreStrictLines, AreStrictLines as are}
 use Rattle.generator_spec.specs.Checking.{check_status, check_lines}
 use Rattle.generator_spec.specs.Promises.{Tells}
 use Rattle.generator_spec.proofs.Endings.{one_line_text}
@@ -105,6 +107,7 @@ refusal_is_another (refusal.Trace why) = trace_is_another why
 refusal_is_another (refusal.Occupied path) = other_line 114 (line_of (refusal.Occupied path)) refl (λ e. omega arith) (λ e. omega arith)
 refusal_is_another refusal.PathTooLong = other_line 108 (line_of refusal.PathTooLong) refl (λ e. omega arith) (λ e. omega arith)
 refusal_is_another refusal.TooManySegments = other_line 108 (line_of refusal.TooManySegments) refl (λ e. omega arith) (λ e. omega arith)
+refusal_is_another refusal.NestedTooDeep = other_line 108 (line_of refusal.NestedTooDeep) refl (λ e. omega arith) (λ e. omega arith)
 
 -- a front that begins so is of a line that does
 first_of_front :
@@ -165,14 +168,31 @@ first_of_appended (b ∷ line) rest first e = e
 difference_first : (line : List ℕ) → IsDifference line → first_byte line ≡ 100
 difference_first line is = ap first_byte is.says
 
--- a check is done, or its text begins with a difference
+strict_first : (line : List ℕ) → IsStrictLine line → first_byte line ≡ 115
+strict_first line (stricts.by_syntax name at is) = ap first_byte is
+strict_first line (stricts.by_requests name is) = ap first_byte is
+
+-- a text that begins with another byte is another
+other_first : (line : List ℕ) (more : List (List ℕ)) (byte : ℕ) → first_byte line ≡ suc byte → suc byte ≢ 111 → suc byte ≢ 118 → IsAnother (concat (line ∷ more))
+other_first line more byte is other copied =
+    other_line (suc byte) (concat (line ∷ more)) (first_of_appended line (concat more) byte is) other copied
+
+modules_text :
+    (command : Command) (strict : List (List ℕ)) (needs : ℕ) → AreStrictLines command strict
+    → (check_status strict ≡ 0) ⊎ IsAnother (concat (check_lines needs strict))
+modules_text command strict needs are.unasked = inl refl
+modules_text command strict needs (are.strictly [] few all) = inl refl
+modules_text command strict needs (are.strictly (line ∷ more) few all) =
+    inr (other_first line (more ++ differences_line (length (line ∷ more)) ∷ []) 114 (strict_first line (All-head IsStrictLine line more all)) (λ e. omega (arith, e)) (λ e. omega (arith, e)))
+
+-- a check is done, or its text begins with a difference or with the line of a module
 checked_text :
-    (differing : List (List ℕ)) (needs : ℕ) → All IsDifference differing
-    → (check_status differing ≡ 0) ⊎ IsAnother (concat (check_lines needs differing))
-checked_text [] needs all = inl refl
-checked_text (line ∷ more) needs all =
-    let first = first_of_appended line (concat (more ++ differences_line (length (line ∷ more)) ∷ [])) 99 (difference_first line (All-head IsDifference line more all)) in
-    inr (other_line 100 (concat (check_lines needs (line ∷ more))) first (λ e. omega arith) (λ e. omega arith))
+    (command : Command) (differing strict : List (List ℕ)) (needs : ℕ) → All IsDifference differing
+    → AreStrictLines command strict
+    → (check_status (differing ++ strict) ≡ 0) ⊎ IsAnother (concat (check_lines needs (differing ++ strict)))
+checked_text command [] strict needs all are_so = modules_text command strict needs are_so
+checked_text command (line ∷ more) strict needs all are_so =
+    inr (other_first line ((more ++ strict) ++ differences_line (length (line ∷ (more ++ strict))) ∷ []) 99 (difference_first line (All-head IsDifference line more all)) (λ e. omega (arith, e)) (λ e. omega (arith, e)))
 
 module _ (words : List (List ℕ)) (before after : FolderState) (status : ℕ) (lines : List (List ℕ))
     (done : status ≡ 0 → IfSome before.holds (λ tree. IsDone words tree after.holds)) where
@@ -182,7 +202,7 @@ module _ (words : List (List ℕ)) (before after : FolderState) (status : ℕ) (
   checked_line : IsChecked words status lines → IsAnother (concat lines) ⊎ WasDone
   checked_line is =
       ⊎_elim (λ zero. inr (done (is.ends ∙ zero))) (λ another. inl (subst (λ all. IsAnother (concat all)) (sym is.says) another))
-      (checked_text is.differing is.needs is.are_differences)
+      (checked_text is.command is.differing is.strict is.needs is.are_differences is.are_strict)
 
   explained_line :
       (own : Config) (path : List ℕ) → TellsChain own path status lines → IsAnother (concat lines) ⊎ WasDone

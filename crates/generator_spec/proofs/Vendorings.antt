@@ -11,7 +11,7 @@ use Rattle.trace_spec.specs.Modules.{Config}
 use Rattle.words_spec.proofs.PlainIsRead.{one_asked}
 use Rattle.words_spec.specs.PlainWords.{vendoring, measuring}
 use Rattle.config_spec.specs.declared.Command.{Command}
-use Rattle.config_spec.specs.declared.Command.TheVariants.{Vendor, Check, List as Lists, Why}
+use Rattle.config_spec.specs.declared.Command.TheVariants.{Vendor, List as Lists, Why}
 use Rattle.config_spec.specs.Projects.{IsConfigOf}
 use Rattle.config_spec.specs.Words.{VendorsTo, command_of, is_page_path}
 use Rattle.vendor_spec.proofs.Plans.{one_plan, plan_fits}
@@ -19,6 +19,7 @@ use Rattle.vendor_spec.proofs.Writes.{goals_behind, placed_at}
 use Rattle.vendor_spec.specs.Vendored.{Pair, IsPlan, Written, goals, nothing, one_more}
 use Rattle.generator_spec.specs.declared.Refusal.{Refusal}
 use Rattle.generator_spec.specs.Commands.{NewFile, new_file}
+use Rattle.generator_spec.specs.Strictness.{ModulesAgree}
 use Rattle.generator_spec.specs.Ending.{HasCopied, IsCarried, IsDone, IsDone as done}
 use Rattle.generator_spec.specs.Outcome.{FilesPlaced}
 use Rattle.generator_spec.specs.Vendoring.{copied_files, RefusesCopies, RefusesCopies as copies}
@@ -104,13 +105,17 @@ copies_alone words tree to command config asks is =
     only_command (is_page_path to) Vendor command
     (subst (λ a. command_of a ≡ Some command) (one_asked words is.asked (vendoring to) is.asks asks) is.is)
 
+no_check : (tree : Tree) (config : Config) → ModulesAgree tree config Vendor → ⊥
+no_check tree config agree = elim agree [ ]
+
 copied_where_done : (words : List (List ℕ)) (tree : Tree) (told : Option Tree) (to : List ℕ) → VendorsTo words to
     → IsDone words tree told → HasCopied words tree told
 copied_where_done words tree told to asks (done.linked l) =
     absurd (subst (λ c. IsCarried c l.map l.carrier)
     (sym (copies_alone words tree to l.generated.command l.generated.config asks l.generated.is_config)) l.carried)
 copied_where_done words tree told to asks (done.served s e) =
-    absurd (let same : Vendor ≡ Check = copies_alone words tree to Check s.config asks s.is_config in cc)
+    absurd (no_check tree s.config (subst (ModulesAgree tree s.config)
+    (sym (copies_alone words tree to s.command s.config asks s.is_config)) s.agree))
 copied_where_done words tree told to asks (done.listed s e) =
     absurd (let same : Vendor ≡ Lists = copies_alone words tree to Lists s.config asks s.is_config in cc)
 copied_where_done words tree told to asks (done.explained s e) =

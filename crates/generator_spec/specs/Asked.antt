@@ -18,7 +18,8 @@ use Rattle.tree_spec.specs.Trees.{Tree}
 use Rattle.trace_spec.specs.Modules.{Config}
 use Rattle.trace_spec.specs.Traces.{generation}
 use Rattle.config_spec.specs.declared.Command.{Command}
-use Rattle.config_spec.specs.declared.Command.TheVariants.{Link, Unlink, Refresh, Inject, Check, Why, Vendor}
+use Rattle.config_spec.specs.declared.Command.TheVariants.{Link, Unlink, Refresh, Inject, Check, CheckStrictly, Why}
+use Rattle.config_spec.specs.declared.Command.TheVariants.{Vendor}
 use Rattle.config_spec.specs.declared.Command.TheVariants.{List as Lists}
 use Rattle.config_spec.specs.Projects.{project_path, IsConfigOf, IsConfigFor}
 use Rattle.config_spec.specs.Words.{VendorsTo}
@@ -31,6 +32,7 @@ own_file Unlink config = []
 own_file Refresh config = []
 own_file Inject config = config.page ∷ []
 own_file Check config = map_path ∷ []
+own_file CheckStrictly config = map_path ∷ []
 own_file Lists config = []
 own_file Why config = []
 own_file Vendor config = []

@@ -9,9 +9,11 @@
 --     HoldsMap tree config map            the map's file is read as this map
 --     RefusesMapFile tree config fault    there is no map to check
 --     IsMapping command                   the command writes the map's file
+--     IsChecking command                  the command checks the map's file
 --     Opens tree config command           what the command needs before its trace is there
 --     Refuses tree config command why     the command is refused: before its trace, by the first refusal of that, or
---                                         for the choices of a specifier, or for the size of its map
+--                                         for the choices of a specifier, for the size of its map, or for a module
+--                                         that is nested too deep
 --     IsRefusalOf config command why      it can be refused so, whatever the tree holds
 --     NewFile                             a file that is written: its path and its bytes
 --     map_and_project config map          the map's file, and then the project's
@@ -29,24 +31,28 @@ use Rattle.page_spec.specs.declared.kinds.InjectFault.{InjectFault}
 use Rattle.page_spec.specs.declared.kinds.InjectFault.TheVariants.{PageUnclear, TwoMaps, NoPlace, Memory}
 use Rattle.page_spec.specs.Injection as injection
 use Rattle.page_spec.specs.Injection.{Injection, TakesMaps}
+use Rattle.grammar_spec.specs.declared.answer.Strict.{Strict}
 use Rattle.import_map_spec.specs.ParsedMap as parsed
 use Rattle.import_map_spec.specs.ParsedMap.{ParsedMap, MapFault}
 use Rattle.import_map_spec.specs.Parsing.{ParsesMap}
 use Rattle.trace_spec.specs.declared.TraceFault.{TraceFault}
+use Rattle.trace_spec.specs.Checks.{Gathered}
 use Rattle.trace_spec.specs.Kinds.{IsOfTrace}
 use Rattle.trace_spec.specs.Modules.{Config, web_name}
 use Rattle.trace_spec.specs.Traces.{traced}
 use Rattle.trace_spec.specs.Walking.{the_page}
 use Rattle.config_spec.specs.declared.Command.{Command}
-use Rattle.config_spec.specs.declared.Command.TheVariants.{Link, Unlink, Refresh, Inject, Check, Why, Vendor}
+use Rattle.config_spec.specs.declared.Command.TheVariants.{Link, Unlink, Refresh, Inject, Check, CheckStrictly, Why}
+use Rattle.config_spec.specs.declared.Command.TheVariants.{Vendor}
 use Rattle.config_spec.specs.declared.Command.TheVariants.{List as Lists}
 use Rattle.generator_spec.specs.declared.MapFileFault.{MapFileFault}
 use Rattle.generator_spec.specs.declared.MapFileFault.TheVariants as map_fault
 use Rattle.generator_spec.specs.declared.PageFault.{PageFault}
 use Rattle.generator_spec.specs.declared.PageFault.TheVariants.{Absent, TooLarge, KeepsMapsOut}
 use Rattle.generator_spec.specs.declared.Refusal.{Refusal}
-use Rattle.generator_spec.specs.declared.Refusal.TheVariants.{Page, MapFile, Trace, Limit}
+use Rattle.generator_spec.specs.declared.Refusal.TheVariants.{Page, MapFile, Trace, Limit, NestedTooDeep}
 use Rattle.generator_spec.specs.Generation.{IsTooWide, IsTooLarge}
+use Rattle.generator_spec.specs.Strictness.{AreSaid, IsNested}
 use Rattle.config_spec.specs.Projects.{project_path}
 use Rattle.project_spec.specs.ProjectFiles.{project_text}
 
@@ -57,6 +63,7 @@ IsGenerating Unlink = ⊤
 IsGenerating Refresh = ⊤
 IsGenerating Inject = ⊤
 IsGenerating Check = ⊥
+IsGenerating CheckStrictly = ⊥
 IsGenerating Lists = ⊥
 IsGenerating Why = ⊥
 IsGenerating Vendor = ⊤
@@ -68,6 +75,7 @@ SaysCounts Unlink = ⊤
 SaysCounts Refresh = ⊤
 SaysCounts Inject = ⊤
 SaysCounts Check = ⊥
+SaysCounts CheckStrictly = ⊥
 SaysCounts Lists = ⊥
 SaysCounts Why = ⊥
 SaysCounts Vendor = ⊥
@@ -139,21 +147,33 @@ pub data IsMapping : Command → Type 0 where
   unlink : IsMapping Unlink
   refresh : IsMapping Refresh
 
+-- the command checks the map's file
+pub data IsChecking : Command → Type 0 where
+  plainly : IsChecking Check
+  strictly : IsChecking CheckStrictly
+
 -- own: `inject` needs a page that takes maps, `check` a map, and the others nothing; a page without a URL gives `check`
 -- no map base, and is refused by the trace
 pub data Opens (tree : Tree) (config : Config) : Command → Type 0 where
   nothing : (command : Command) → IsMapping command → Opens tree config command
   page : (page : List ℕ) → IsPage tree config page → TakesMaps page → Opens tree config Inject
-  has_map : (map : ParsedMap) → HoldsMap tree config map → Opens tree config Check
-  no_base : (text : List ℕ) → IsMapText tree text → web_name config the_page ≡ None → Opens tree config Check
+  has_map :
+      (command : Command) → IsChecking command → (map : ParsedMap) → HoldsMap tree config map
+      → Opens tree config command
+  no_base :
+      (command : Command) → IsChecking command → (text : List ℕ) → IsMapText tree text
+      → web_name config the_page ≡ None → Opens tree config command
   no_file : Opens tree config Lists
   no_other_file : Opens tree config Why
   nothing_first : Opens tree config Vendor
 
--- own: the command's file comes before the trace, and behind it a specifier's choices, and then the size of the map
+-- own: the command's file comes before the trace, and behind it a specifier's choices, and then the size of the map; or
+-- the nesting of the modules, where these are checked
 pub data Refuses (tree : Tree) (config : Config) : Command → Refusal → Type 0 where
   page : (fault : PageFault) → RefusesPage tree config fault → Refuses tree config Inject (Page fault)
-  map_file : (fault : MapFileFault) → RefusesMapFile tree config fault → Refuses tree config Check (MapFile fault)
+  map_file :
+      (command : Command) (fault : MapFileFault) → IsChecking command → RefusesMapFile tree config fault
+      → Refuses tree config command (MapFile fault)
   trace :
       (command : Command) (fault : TraceFault) → Opens tree config command → traced (get tree) config ≡ Err fault
       → Refuses tree config command (Trace fault)
@@ -163,6 +183,10 @@ pub data Refuses (tree : Tree) (config : Config) : Command → Refusal → Type 
   large_map :
       (command : Command) → IsGenerating command → Opens tree config command → IsTooLarge tree config
       → Refuses tree config command (Limit Map)
+  nested :
+      (map : ParsedMap) (all : Gathered) (answers : List Strict) → HoldsMap tree config map
+      → traced (get tree) config ≡ Ok all → AreSaid all.sources answers → IsNested answers
+      → Refuses tree config CheckStrictly NestedTooDeep
 
 -- ---- whatever the tree holds
 
@@ -177,11 +201,13 @@ IsOfPage (KeepsMapsOut Memory) = ⊥
 
 pub data IsRefusalOf (config : Config) : Command → Refusal → Type 0 where
   page : (fault : PageFault) → IsOfPage fault → IsRefusalOf config Inject (Page fault)
-  map_file : (fault : MapFileFault) → IsRefusalOf config Check (MapFile fault)
+  map_file :
+      (command : Command) (fault : MapFileFault) → IsChecking command → IsRefusalOf config command (MapFile fault)
   trace :
       (command : Command) (fault : TraceFault) → IsOfTrace config fault → IsRefusalOf config command (Trace fault)
   many_choices : (command : Command) → IsGenerating command → IsRefusalOf config command (Limit Choices)
   large_map : (command : Command) → IsGenerating command → IsRefusalOf config command (Limit Map)
+  nested : IsRefusalOf config CheckStrictly NestedTooDeep
 
 -- ---- what is written
 

@@ -2,7 +2,7 @@
 --     EndsAs words before after out out_after result      all that is promised of folder, output and answer
 --     IsDone words tree told         the command did what it is for, and this is told afterwards
 --     Linked words tree told         the tree's map was written, this is told afterwards, and the map serves
---     MapServes words tree           the map that is there serves
+--     MapServes words tree           the map that is there serves, and where modules are checked, each agrees
 --     HasModules words tree          there is a trace, whose modules can be listed
 --     IsLoaded words tree            requests lead from the page to the file that is asked for
 --     HasCopied words tree told      the files that the map needs were copied, and the copy has the same map
@@ -15,7 +15,9 @@ use Rattle.std.specs.Prelude.{Option, Some, None, IfSome, Ok}
 use Rattle.std.specs.Prelude.{map, option_map, take}
 use Rattle.std.specs.FinMap.{get}
 use Rattle.std.specs.List.{concat}
+use Rattle.tree_spec.specs.declared.LimitName.TheVariants.{Modules}
 use Rattle.tree_spec.specs.Counts.{Rose}
+use Rattle.tree_spec.specs.Limits.{limit_number}
 use Rattle.tree_spec.specs.States.{FolderState, SinkState}
 use Rattle.tree_spec.specs.Trees.{Tree}
 use Rattle.import_map_spec.specs.Resolving.{Resolution, Resolved}
@@ -25,7 +27,8 @@ use Rattle.trace_spec.specs.Checks.{Gathered}
 use Rattle.trace_spec.specs.Modules.{Config}
 use Rattle.trace_spec.specs.Traces.{traced}
 use Rattle.config_spec.specs.declared.Command.{Command}
-use Rattle.config_spec.specs.declared.Command.TheVariants.{Link, Unlink, Refresh, Inject, Check, Why, Vendor}
+use Rattle.config_spec.specs.declared.Command.TheVariants.{Link, Unlink, Refresh, Inject, Check, CheckStrictly, Why}
+use Rattle.config_spec.specs.declared.Command.TheVariants.{Vendor}
 use Rattle.config_spec.specs.declared.Command.TheVariants.{List as Lists}
 use Rattle.config_spec.specs.declared.ConfigFault.{ConfigFault}
 use Rattle.generator_spec.specs.declared.Refusal.{Refusal}
@@ -37,11 +40,13 @@ use Rattle.generator_spec.specs.Explaining.{asked_by, is_at}
 use Rattle.generator_spec.specs.Vendoring.{CanCopy, IsCopyRefusal, Vendors, copied_files}
 use Rattle.generator_spec.specs.Generation.{PageIsFile, Generates}
 use Rattle.generator_spec.specs.Serves.{Serves, KnowsModules, IsSmallest}
+use Rattle.generator_spec.specs.Strictness.{ModulesAgree}
 use Rattle.generator_spec.specs.Statuses.{done_status, words_status, read_fault_status, write_fault_status}
 use Rattle.generator_spec.specs.Statuses.{memory_status, not_reached_status}
 use Rattle.config_spec.specs.Words.{AsksWhy, IsCommandOf, IsPlain, Measures, RefusesWords}
 use Rattle.config_spec.specs.Projects.{IsConfigOf, IsConfigFor, CanRefuseConfig, measure_config}
 use Rattle.generator_spec.specs.Lines.{status_of, line_of, counts_line, done_line, differs_line, module_line}
+use Rattle.generator_spec.specs.Lines.{strict_syntax_line, strict_requests_line}
 use Rattle.generator_spec.specs.Lines.{measure_line, vendored_line, from_page_line, asks_line, not_reached_line}
 use Rattle.vendor_spec.specs.Vendored.{Pair, IsBelow}
 use Rattle.workload_spec.specs.Packages.{tree_of}
@@ -72,6 +77,7 @@ IsCarried Unlink map file = file.bytes ≡ map
 IsCarried Refresh map file = file.bytes ≡ map
 IsCarried Inject map file = IsOneMap map file.bytes
 IsCarried Check map file = ⊥
+IsCarried CheckStrictly map file = ⊥
 IsCarried Lists map file = ⊥
 IsCarried Why map file = ⊥
 IsCarried Vendor map file = ⊥
@@ -93,10 +99,13 @@ pub record Linked (words : List (List ℕ)) (tree : Tree) (told : Option Tree) :
   pub carried : IsCarried generated.command map carrier
   pub written : AreWritten tree files told
 
--- own: it is asked to check the map's file, and through that map each request is led so
+-- own: it is asked to check the map's file, and through that map each request is led so; and where it is asked to check
+-- strictly, the statement grammar matches each module that the page reaches, with the requests of its outline
 pub record MapServes (words : List (List ℕ)) (tree : Tree) : Type 0 where
+  pub command : Command
   pub config : Config
-  pub is_config : IsConfigOf words tree Check config
+  pub is_config : IsConfigOf words tree command config
+  pub agree : ModulesAgree tree config command
   pub text : List ℕ
   pub stands : IsMapText tree text
   pub serves : Serves tree config text
@@ -170,17 +179,32 @@ pub record IsDifference (line : List ℕ) : Type 0 where
   pub differs : gets ≢ Resolved wants
   pub says : line ≡ differs_line referrer specifier wants gets
 
+-- own: some module doesn't agree with the statement grammar
+pub data IsStrictLine (line : List ℕ) : Type 0 where
+  by_syntax : (name : List ℕ) (at : ℕ) → line ≡ strict_syntax_line name at → IsStrictLine line
+  by_requests : (name : List ℕ) → line ≡ strict_requests_line name → IsStrictLine line
+
+-- own: `check` says nothing of modules, and `check --strict` no more than there may be modules
+pub data AreStrictLines : Command → List (List ℕ) → Type 0 where
+  unasked : AreStrictLines Check []
+  strictly :
+      (lines : List (List ℕ)) → length lines ≤ limit_number Modules → All IsStrictLine lines
+      → AreStrictLines CheckStrictly lines
+
 -- own: the words can have this config of a check, and the lines are those of one with some differences, of which there
--- are no more than needs
+-- are no more than needs, and behind them those of some modules
 pub record IsChecked (words : List (List ℕ)) (status : ℕ) (lines : List (List ℕ)) : Type 0 where
+  pub command : Command
   pub config : Config
-  pub is_config : IsConfigFor words Check config
+  pub is_config : IsConfigFor words command config
   pub needs : ℕ
   pub differing : List (List ℕ)
   pub few : length differing ≤ needs
   pub are_differences : All IsDifference differing
-  pub ends : status ≡ check_status differing
-  pub says : lines ≡ check_lines needs differing
+  pub strict : List (List ℕ)
+  pub are_strict : AreStrictLines command strict
+  pub ends : status ≡ check_status (differing ++ strict)
+  pub says : lines ≡ check_lines needs (differing ++ strict)
 
 -- own: some module is listed so
 pub record IsModuleLine (line : List ℕ) : Type 0 where

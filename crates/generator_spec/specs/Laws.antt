@@ -1,21 +1,26 @@
--- The laws of generation, outcomes and ends. Each is the contract of a function of this crate.
-use Rattle.std.specs.Prelude.{◌≡◌, ◌⊎◌, ℕ, List, map, Some, Ok, Err}
+-- The laws of generation, checks, outcomes and ends. Each is the contract of a function of this crate.
+use Rattle.std.specs.Prelude.{◌≡◌, ◌⊎◌, ◌↔◌, ◌++◌, ℕ, List, [], map, Some, Ok, Err}
 use Rattle.std.specs.FinMap.{get}
 use Rattle.tree_spec.specs.States.{FolderState, SinkState}
 use Rattle.tree_spec.specs.Trees.{Tree, IsTree}
 use Rattle.import_map_spec.specs.ParsedMap.{ParsedMap}
 use Rattle.chain_spec.specs.Chains.{Asker, IsReached}
+use Rattle.check_spec.specs.Differences.{differences}
 use Rattle.layout_spec.specs.PrintedMap.{map_text}
 use Rattle.fewest_spec.specs.Fewest.{IsFewestLayout}
 use Rattle.trace_spec.specs.declared.TraceFault.{TraceFault}
 use Rattle.trace_spec.specs.Modules.{Config, Module}
 use Rattle.trace_spec.specs.Checks.{Gathered}
 use Rattle.trace_spec.specs.Traces.{leads, specifiers, traced}
+use Rattle.config_spec.specs.declared.Command.{Command}
 use Rattle.config_spec.specs.Words.{IsPlain, IsSession}
+use Rattle.generator_spec.specs.Checking.{difference_lines, SaysOfModules, check_status}
 use Rattle.generator_spec.specs.Digests.{with_digests}
 use Rattle.generator_spec.specs.Explaining.{asked_by, referrer_of}
 use Rattle.generator_spec.specs.Generation.{Generates, IsTooWide, IsTooLarge, map_base}
 use Rattle.generator_spec.specs.Outcome.{Outcome}
+use Rattle.generator_spec.specs.Statuses.{done_status}
+use Rattle.generator_spec.specs.Strictness.{ModulesAgree}
 use Rattle.generator_spec.specs.Vendoring.{IsBlocked}
 use Rattle.generator_spec.specs.Ending.{EndsAs}
 use Rattle.generator_spec.specs.Promises.{Promises}
@@ -48,6 +53,17 @@ NothingRefused =
     (tree : Tree) (config : Config) (bytes : List ℕ) → Generates tree config bytes
     → ((fault : TraceFault) → traced (get tree) config ≡ Err fault → ⊥) × (IsTooWide tree config → ⊥)
     × (IsTooLarge tree config → ⊥)
+
+-- ---- checks
+
+-- a check of a trace is done exactly where the map serves each need, and each module agrees, where the modules are
+-- checked too
+abbrev pub ChecksAreExact : Type 0
+ChecksAreExact =
+    (tree : Tree) (config : Config) (command : Command) (held : ParsedMap) (all : Gathered) (strict : List (List ℕ))
+    → traced (get tree) config ≡ Ok all → SaysOfModules all command strict
+    → (check_status (difference_lines held all ++ strict) ≡ done_status)
+    ↔ ((differences held all.needs ≡ []) × ModulesAgree tree config command)
 
 -- ---- chains
 

@@ -1,4 +1,5 @@
 pub mod Statuses
+pub mod Strictness
 pub mod Commands
 pub mod Measuring
 pub mod Digests

@@ -5,6 +5,8 @@
 --     measure_line number modules requests mappings      the line of a measure of so many packages
 --     measured_line number all map    the same for a trace and its map
 --     differs_line referrer specifier wants gets      the line of a need that a map doesn't serve
+--     strict_syntax_line name at      the line of a module that the statement grammar refuses at this place
+--     strict_requests_line name       the line of one whose requests aren't the outline's
 --     served_line needs, differences_line count       the last line of a check
 --     trace_status fault      the exit status of a fault of the trace
 --     inject_status, page_status, map_file_status      the same of a page that keeps maps out, of the page, of the
@@ -29,6 +31,7 @@ use Rattle.tree_spec.specs.declared.LimitName.{LimitName}
 use Rattle.tree_spec.specs.declared.LimitName.TheVariants.{File, Depth, Entries}
 use Rattle.tree_spec.specs.Limits.{limit_number, limit_name}
 use Rattle.json_spec.specs.PrintedString.{quoted}
+use Rattle.grammar_spec.specs.Readings.{most_open}
 use Rattle.node_spec.specs.declared.Reason.{Reason}
 use Rattle.node_spec.specs.declared.Reason.TheVariants as reason
 use Rattle.page_spec.specs.declared.kinds.InjectFault.{InjectFault}
@@ -56,7 +59,7 @@ use Rattle.generator_spec.specs.declared.PageFault.{PageFault}
 use Rattle.generator_spec.specs.declared.PageFault.TheVariants.{Absent, TooLarge, KeepsMapsOut}
 use Rattle.generator_spec.specs.declared.Refusal.{Refusal}
 use Rattle.generator_spec.specs.declared.Refusal.TheVariants.{Page, MapFile, Trace, Occupied, PathTooLong}
-use Rattle.generator_spec.specs.declared.Refusal.TheVariants.{TooManySegments}
+use Rattle.generator_spec.specs.declared.Refusal.TheVariants.{TooManySegments, NestedTooDeep}
 use Rattle.generator_spec.specs.declared.Refusal.TheVariants.{Config as Configured}
 use Rattle.generator_spec.specs.declared.Refusal.TheVariants as refusal
 use Rattle.vendor_spec.specs.Goals.{most_path_bytes, most_path_segments}
@@ -113,6 +116,7 @@ status_of (refusal.Limit which) = limit_status
 status_of (Page fault) = page_status fault
 status_of (MapFile fault) = map_file_status fault
 status_of (Trace fault) = trace_status fault
+status_of NestedTooDeep = limit_status
 status_of (Occupied path) = refused_status
 status_of PathTooLong = limit_status
 status_of TooManySegments = limit_status
@@ -237,6 +241,7 @@ line_of (refusal.Limit which) = limit_line which
 line_of (Page fault) = page_line fault
 line_of (MapFile fault) = map_file_line fault
 line_of (Trace fault) = trace_line fault
+line_of NestedTooDeep = above_line (codes "nesting") most_open
 line_of (Occupied path) = text_line (codes "refused: Occupied ") path
 line_of PathTooLong = above_line (codes "path") most_path_bytes
 line_of TooManySegments = above_line (codes "segments") most_path_segments
@@ -274,6 +279,14 @@ abbrev pub differs_line : List ℕ → List ℕ → List ℕ → Resolution → 
 differs_line referrer specifier wants gets =
     codes "differs: from " ++ (quoted referrer ++ (codes " for " ++ (quoted specifier ++ (codes " wants "
     ++ (quoted wants ++ (codes " gets " ++ (got_text gets ++ end_of_line)))))))
+
+-- own: the module, by path and suffix as one text, and the place in its text
+abbrev pub strict_syntax_line : List ℕ → ℕ → List ℕ
+strict_syntax_line name at =
+    codes "strict: " ++ (quoted name ++ (codes " Syntax at " ++ (decimal at ++ end_of_line)))
+
+abbrev pub strict_requests_line : List ℕ → List ℕ
+strict_requests_line name = codes "strict: " ++ (quoted name ++ (codes " requests differ" ++ end_of_line))
 
 abbrev pub served_line : ℕ → List ℕ
 served_line needs = codes "ok: " ++ (decimal needs ++ (codes " needs served" ++ end_of_line))

@@ -3,7 +3,7 @@
 --     ComesTo words tree status lines files      the exit status, what the command says, and the files that it writes
 --     FilesPlaced tree files after               the files are written, one after another
 --     Outcome words tree status lines after      what it comes to, and the tree that it leaves
-use Rattle.std.specs.Prelude.{◌≡◌, ℕ, List, [], ◌∷◌, Ok, length}
+use Rattle.std.specs.Prelude.{◌≡◌, ◌++◌, ℕ, List, [], ◌∷◌, Ok, length}
 use Rattle.std.specs.FinMap.{get}
 use Rattle.tree_spec.specs.declared.Entry.TheVariants.{Stored}
 use Rattle.tree_spec.specs.Trees.{Tree, Places}
@@ -12,11 +12,11 @@ use Rattle.trace_spec.specs.Checks.{Gathered}
 use Rattle.trace_spec.specs.Modules.{Config}
 use Rattle.trace_spec.specs.Traces.{traced}
 use Rattle.config_spec.specs.declared.Command.{Command}
-use Rattle.config_spec.specs.declared.Command.TheVariants.{Check, Why, Vendor, List as Lists}
+use Rattle.config_spec.specs.declared.Command.TheVariants.{Why, Vendor, List as Lists}
 use Rattle.config_spec.specs.declared.ConfigFault.{ConfigFault}
 use Rattle.generator_spec.specs.declared.Refusal.{Refusal}
 use Rattle.generator_spec.specs.declared.Refusal.TheVariants.{Config as Configured}
-use Rattle.generator_spec.specs.Checking.{difference_lines, check_status, check_lines}
+use Rattle.generator_spec.specs.Checking.{difference_lines, SaysOfModules, check_status, check_lines}
 use Rattle.generator_spec.specs.Listing.{list_lines}
 use Rattle.generator_spec.specs.CopiedMaps.{generation_paths}
 use Rattle.generator_spec.specs.Explaining.{SaysWhy}
@@ -47,8 +47,9 @@ pub data RefusesRun (words : List (List ℕ)) (tree : Tree) : Refusal → Type 0
   by_measure : (number : ℕ) (why : Refusal) → Measures words number → RefusesMeasure number why → RefusesRun words tree why
 
 -- own: a refusal writes nothing. Where nothing is refused, the command's files are written, with the map that is
--- generated; or it is said which of the trace's needs the map that is there doesn't serve, or which modules it has, or
--- by which requests the page comes to load a file, if it does. Where copies are asked for, the files of the generation's
+-- generated; or it is said which of the trace's needs the map that is there doesn't serve, and behind that, where it is
+-- asked to check strictly, which modules don't agree with the statement grammar; or which modules it has, or by which
+-- requests the page comes to load a file, if it does. Where copies are asked for, the files of the generation's
 -- footprint are written below the folder, in byte order, and it is said how many.
 -- A measure says how much is generated for its own tree, whatever the folder holds. Words without a meaning are answered
 -- with some text
@@ -65,10 +66,10 @@ pub data ComesTo (words : List (List ℕ)) (tree : Tree) (status : ℕ) (lines :
       → (generates : Generates tree config map) → Writes tree config map command files → status ≡ done_status
       → lines ≡ done_line generates.all generates.layout ∷ [] → ComesTo words tree status lines files
   checked :
-      (config : Config) (map : ParsedMap) (all : Gathered) → IsConfigOf words tree Check config
-      → HoldsMap tree config map
-      → traced (get tree) config ≡ Ok all → status ≡ check_status (difference_lines map all)
-      → lines ≡ check_lines (length all.needs) (difference_lines map all) → files ≡ []
+      (command : Command) (config : Config) (map : ParsedMap) (all : Gathered) (strict : List (List ℕ))
+      → IsConfigOf words tree command config → HoldsMap tree config map → traced (get tree) config ≡ Ok all
+      → SaysOfModules all command strict → status ≡ check_status (difference_lines map all ++ strict)
+      → lines ≡ check_lines (length all.needs) (difference_lines map all ++ strict) → files ≡ []
       → ComesTo words tree status lines files
   listed :
       (config : Config) (all : Gathered) → IsConfigOf words tree Lists config → traced (get tree) config ≡ Ok all

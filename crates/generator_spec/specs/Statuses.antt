@@ -5,7 +5,7 @@
 --     limit_status              a limit is passed
 --     read_fault_status         a look failed
 --     write_fault_status        the write failed, or the output did
---     differences_status        a need isn't served
+--     differences_status        a need isn't served, or a module doesn't agree with the statement grammar
 --     file_status               a file that the command needs isn't there, or isn't of its form
 --     memory_status             want of memory
 --     not_reached_status        no chain of requests leads to the file

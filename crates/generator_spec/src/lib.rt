@@ -2,7 +2,7 @@
 //! the contracts of functions that do nothing.
 #![tactic(auto)]
 
-ghost use Rattle.generator_spec.specs.Laws.{OneGeneration, SomeGeneration, NothingRefused};
+ghost use Rattle.generator_spec.specs.Laws.{OneGeneration, SomeGeneration, NothingRefused, ChecksAreExact};
 ghost use Rattle.generator_spec.specs.Laws.{RequestsAreNumbered, OneOutcome, SomeOutcome, EndsKeepPromises};
 
 mod copies;
@@ -55,6 +55,8 @@ pub enum Refusal {
     MapFile { fault: MapFileFault },
     /// There is no trace.
     Trace { fault: TraceFault },
+    /// More forms of the statement grammar would be open in some module than may be.
+    NestedTooDeep,
     /// Something stands where copies are to stand.
     Occupied { path: Text },
     /// The path of some copy has too many bytes.
@@ -76,6 +78,11 @@ pub fn some_generation()
 /// Where something is generated, nothing of the trace is refused, and neither a specifier's choices nor the map's size.
 pub fn nothing_refused()
     ensures { NothingRefused }
+{}
+
+/// A check is done exactly where the map serves each need, and each module agrees that is checked.
+pub fn checks_are_exact()
+    ensures { ChecksAreExact }
 {}
 
 /// Where there is a trace, the request with a number leads to the module with that number.

@@ -4,10 +4,13 @@
 --     source_in found           a source, or why there is none
 --     IsOfSource why            of the limits only those of a trace are passed
 --     AreInside bytes requests  the literal of each request stands in these bytes
---     IsSource found            a source, whose requests are inside its bytes; or why there is none
+--     IsRead bytes              the bytes are a text that has an outline
+--     IsSource found            a source that is read, whose requests are inside its bytes; or why there is none
 --     FindsSource result        what a call finds is such
 use Rattle.std.specs.Prelude.{◌≤◌, ℕ, List, All, length, map, ⊤, Result, Ok, Err, IfOk}
+use Rattle.std.specs.Str.{IsUtf8}
 use Rattle.module_spec.specs.declared.request.Request.{Request}
+use Rattle.module_spec.specs.Outlines.{Outline, ReadsOutline}
 use Rattle.trace_spec.specs.Kinds.{IsTraceLimit}
 use Rattle.trace_spec.specs.Questions as spec
 use Rattle.module_sources.specs.declared.source.Source.{Source}
@@ -36,8 +39,13 @@ IsOfSource (Above which) = IsTraceLimit which
 abbrev pub AreInside : List ℕ → List Request → Type 0
 AreInside bytes requests = All (λ request. (request.from ≤ request.to) × (request.to ≤ length bytes)) requests
 
+pub record IsRead (bytes : List ℕ) : Type 0 where
+  pub utf8 : IsUtf8 bytes
+  pub outline : Outline
+  pub reads : ReadsOutline bytes (Ok outline)
+
 abbrev pub IsSource : Result Source NoSource → Type 0
-IsSource (Ok source) = AreInside source.bytes.value source.requests.value
+IsSource (Ok source) = AreInside source.bytes.value source.requests.value × IsRead source.bytes.value
 IsSource (Err why) = IsOfSource why
 
 abbrev pub FindsSource : {E : Type 0} → Result (Result Source NoSource) E → Type 0

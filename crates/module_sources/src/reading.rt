@@ -12,7 +12,7 @@ ghost use Rattle.package_lookup.specs.Responses.{given, fails, never, by_fault, 
 ghost use Rattle.package_lookup.specs.SeenLooks.{entry_of};
 ghost use Rattle.es_module_parser.specs.Faults.{IsFaultOf};
 ghost use Rattle.es_module_parser.specs.Outlines.{as_outline};
-ghost use Rattle.module_sources.specs.Shown.{source_in, AreInside, FindsSource, IsSource};
+ghost use Rattle.module_sources.specs.Shown.{source_in, AreInside, FindsSource, IsRead, IsSource};
 
 use crate::{NoSource, Source};
 use es_module_parser::{Outline, OutlineFault, outline};
@@ -183,7 +183,8 @@ fn source_of_outline(
     outline: Outline,
     is_detected: bool,
 ) -> Result<Result<Source, NoSource>, Memory>
-    requires { AreInside bytes.value outline.requests }
+    requires inside { AreInside bytes.value outline.requests }
+    requires read { IsRead bytes.value }
     ensures source { IfOk result (λ found. source_in found
         ≡ spec.by_outline is_detected bytes.value (Ok (as_outline outline))) }
     ensures is { FindsSource result }

@@ -3,7 +3,6 @@ pub mod PathSets
 mod LookCounts
 mod SightAnswers
 mod Folders
-mod Copies
 pub mod Sights
 mod Growing
 pub mod Questions

@@ -56,17 +56,6 @@ impl Over {
         }
     }
 
-    /// An equal one, with all bytes and records shared.
-    pub fn copy(&self, alloc: Global) -> Result<Over, Memory>
-        ensures { IfOk result (λ copy. (path : List ℕ) → over_at copy path ≡ over_at self.now path) }
-    {
-        let mut copy = Over::new(alloc);
-        for (path, held) in self.looks.iter() {
-            copy.put(path.copy(alloc)?, held.copy()?)?;
-        }
-        Ok(copy)
-    }
-
     fn remove(&mut self, path: &Path)
         ensures { (at : List ℕ) → over_at self.new at ≡ (if bytes_eq path.now at then None else over_at self.old at) }
     {

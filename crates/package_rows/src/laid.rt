@@ -17,11 +17,13 @@ fn push_seen(seen: &Result<Seen, LookupFault>, said: &mut Said) {
     }
 }
 
-// A copy of an empty file that is laid at a path.
+// An empty file that is laid at a path, shared with another.
 fn empty_file(alloc: Global, path: &Path) -> Result<Over, Memory> {
     let mut over = Over::new(alloc);
     over.set(alloc, path, Look::File(Bytes::of(alloc, b"")?))?;
-    over.copy(alloc)
+    let mut shared = Over::new(alloc);
+    shared.follow(alloc, path, &over)?;
+    Ok(shared)
 }
 
 // What stands at a path as it is, under what is laid over it, and when nothing is laid any more.
@@ -46,7 +48,7 @@ fn laid(alloc: Global, said: &mut Said) -> Result<(), Memory> {
     Ok(())
 }
 
-/// A copy of a look at an empty file is laid over an empty folder, and then nothing.
+/// A look at an empty file, shared with another, is laid over an empty folder, and then nothing.
 pub fn tell_laid(alloc: Global, said: &mut Said) {
     said.push("laid over: ");
     if laid(alloc, said).is_err() {

@@ -22,6 +22,7 @@ pub fn config_of(alloc: Global, order: Order<'_>, found: Option<Config>) -> Resu
         Order::Unlink { entries } => unlinked_there(alloc, entries, found),
         Order::Refresh => there(found),
         Order::Check => there(found),
+        Order::CheckStrictly => there(found),
         Order::List => there(found),
         Order::Inject => there(found),
     }

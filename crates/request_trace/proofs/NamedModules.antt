@@ -68,4 +68,5 @@ counted tables count is whole = record {
   modules = is;
   sources = is ∙ sym whole.visited;
   few = subst (λ n. n ≤ limit_number Modules) (sym is) whole.few;
+  read = whole.read;
 }

@@ -2,7 +2,8 @@
 --     IsOfFootprint config before known path       where a tree is told, the path is of the generation's footprint, by
 --                                                  all that looks tell
 --     Traces config before known result after later      the trace, or its first refusal
---     CountsModules gathered count      as many modules as that, as many sources, and no more than there may be
+--     CountsModules gathered count      as many modules as that, as many sources, which are read, and no more than there
+--                                       may be
 --     TakesSteps result count before after      no more steps than count tells of what was found, and never more than
 --                                               there may be modules and requests
 --     TracesTables config before known result after later from to      the trace as the walk's tables, in so many steps
@@ -25,6 +26,7 @@ use Rattle.trace_walk.specs.declared.tables.Tables.{Tables}
 use Rattle.trace_walk.specs.Meeting.{IsTold}
 use Rattle.trace_walk.specs.Shown.{traced_of}
 use Rattle.trace_walk.specs.Walked.{AreWalked}
+use Rattle.trace_walk.specs.Walking.{AllRead}
 use Rattle.trace_walk.specs.Kinds.{IsOfWalk}
 
 -- what is known of a folder, where nothing was looked at yet
@@ -49,11 +51,12 @@ pub record Traces (config : Config) (before : FolderState) (known : Known) (resu
   pub looks : OnlyLooks before after (result ≡ Err ReadFault)
   pub kind : IfErr result (IsOfWalk config)
 
--- own: there are as many sources as modules
+-- own: there are as many sources as modules, and each is a text with an outline
 pub record CountsModules (gathered : Gathered) (count : ℕ) : Type 0 where
   pub modules : count ≡ length gathered.modules
   pub sources : count ≡ length gathered.sources
   pub few : count ≤ limit_number Modules
+  pub read : AllRead gathered.sources
 
 -- own: as many modules and requests as are counted of what was found; and whatever the result is, as many as there may
 -- be at most

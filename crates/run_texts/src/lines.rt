@@ -1,4 +1,5 @@
-ghost use Rattle.std.specs.Prelude.{◌≡◌, ◌++◌, [], IfOk, OnOk};
+ghost use Rattle.std.specs.Prelude.{◌≡◌, ◌++◌, [], IfOk, OnOk, codes};
+ghost use Rattle.json_spec.specs.PrintedString.{quoted};
 ghost use Rattle.tree_spec.specs.Limits.{limit_name, limit_number};
 ghost use Rattle.trace_spec.specs.declared.TraceFault.TheVariants as fault;
 ghost use Rattle.generator_spec.specs.Lines as spec;
@@ -16,6 +17,9 @@ use std::alloc::Global;
 use trace_spec::{AskCause, TraceFault};
 use tree_spec::LimitName;
 use vendor_spec::{MOST_PATH_BYTES, MOST_PATH_SEGMENTS};
+
+/// How many forms of the statement grammar may be open at once in a module.
+const MOST_NESTING: usize = 1000;
 
 /// The line of words that have no meaning, though they can be parsed.
 pub fn not_plain_line() -> &'static [u8]
@@ -119,6 +123,40 @@ fn push_got(text: &mut Vec<u8>, got: &Got) -> Result<(), Memory>
     }
 }
 
+/// The line of a module that the statement grammar refuses at a place of its text: the module by its path and suffix.
+pub fn strict_syntax_line(
+    alloc: Global,
+    path: &str,
+    suffix: &str,
+    at: usize,
+) -> Result<Vec<u8>, Memory>
+    ensures { IfOk result (λ line. line.items ≡ spec.strict_syntax_line (path.now ++ suffix.now) at) }
+{
+    let mut line = strict_front(alloc, path, suffix)?;
+    let place = format!(in alloc; " Syntax at {at}\n")?;
+    line.extend_from_slice(place.as_bytes())?;
+    Ok(line)
+}
+
+/// The line of a module whose requests aren't those of its outline, by the statement grammar.
+pub fn strict_requests_line(alloc: Global, path: &str, suffix: &str) -> Result<Vec<u8>, Memory>
+    ensures { IfOk result (λ line. line.items ≡ spec.strict_requests_line (path.now ++ suffix.now)) }
+{
+    let mut line = strict_front(alloc, path, suffix)?;
+    line.extend_from_slice(b" requests differ\n".as_slice())?;
+    Ok(line)
+}
+
+// How the line of a module begins.
+fn strict_front(alloc: Global, path: &str, suffix: &str) -> Result<Vec<u8>, Memory>
+    ensures { IfOk result (λ line. line.items ≡ codes "strict: " ++ quoted (path.now ++ suffix.now)) }
+{
+    let name = format!(in alloc; "{path}{suffix}")?;
+    let mut line = Vec::from_slice(alloc, b"strict: ".as_slice())?;
+    print_text(&mut line, name.as_str())?;
+    Ok(line)
+}
+
 /// The last line of a check that found this number of differences.
 pub fn differences_line(alloc: Global, count: usize) -> Result<Vec<u8>, Memory>
     ensures { IfOk result (λ line. line.items ≡ spec.differences_line count) }
@@ -192,13 +230,14 @@ pub fn line_of(alloc: Global, refusal: &Refusal) -> Result<Vec<u8>, Memory>
         Refusal::MapFile { fault } => map_file_line(alloc, *fault),
         Refusal::Trace { fault } => trace_line(alloc, fault),
         Refusal::Occupied { path } => text_line(alloc, "refused: Occupied ", path.as_str()),
-        Refusal::PathTooLong => path_line(alloc, "path", MOST_PATH_BYTES),
-        Refusal::TooManySegments => path_line(alloc, "segments", MOST_PATH_SEGMENTS),
+        Refusal::PathTooLong => most_line(alloc, "path", MOST_PATH_BYTES),
+        Refusal::TooManySegments => most_line(alloc, "segments", MOST_PATH_SEGMENTS),
+        Refusal::NestedTooDeep => most_line(alloc, "nesting", MOST_NESTING),
     }
 }
 
-// The name of what a path has too much of, and the most that it has.
-fn path_line(alloc: Global, name: &str, most: usize) -> Result<Vec<u8>, Memory>
+// The name of what there is too much of, and the most that there may be.
+fn most_line(alloc: Global, name: &str, most: usize) -> Result<Vec<u8>, Memory>
     ensures { IfOk result (λ line. line.items ≡ spec.above_line name.now most) }
 {
     let line = format!(in alloc; "limit: {name} above {most}\n")?;

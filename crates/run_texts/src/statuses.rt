@@ -14,7 +14,7 @@ pub const BAD_WORDS: u8 = 2;
 pub const READ_FAULT: u8 = 4;
 /// The map wasn't written, or the line didn't go out.
 pub const WRITE_FAULT: u8 = 5;
-/// A need isn't served.
+/// A need isn't served, or a module doesn't agree with the statement grammar.
 pub const DIFFERENCES: u8 = 6;
 /// Want of memory.
 pub const MEMORY: u8 = 8;
@@ -41,6 +41,7 @@ pub fn status_of(refusal: &Refusal) -> u8
         Refusal::Occupied { path: _ } => REFUSED,
         Refusal::PathTooLong => LIMIT,
         Refusal::TooManySegments => LIMIT,
+        Refusal::NestedTooDeep => LIMIT,
     }
 }
 

@@ -89,3 +89,4 @@ refusal_is_other (refusal.Trace fault) = of_trace fault
 refusal_is_other (refusal.Occupied path) = one
 refusal_is_other refusal.PathTooLong = three
 refusal_is_other refusal.TooManySegments = three
+refusal_is_other refusal.NestedTooDeep = three

@@ -30,7 +30,7 @@ module _ (state : SessionState) where
   refused_or_generated : (draft : Draft) (map line : List ℕ) (counts : Counts) → IsRefused state (Ok draft) line
       → IsGenerated draft.tree (config_with state.config draft.entries) map counts → ⊥
   refused_or_generated draft map line counts (by_generation same why is) generated =
-      refused_or_opened_and_generated draft.tree (config_with state.config draft.entries) Refresh why map is (nothing Refresh refresh) generated.generates
+      refused_or_opened_and_generated draft.tree (config_with state.config draft.entries) Refresh why map tt is (nothing Refresh refresh) generated.generates
 
   one_following : (made : Result Draft EditFault) (next other : SessionState) (line said : List ℕ) → Follows state made next line → Follows state made other said → SameReply next other line said
   one_following made _ _ _ _ (refused _ line is) (refused _ said is_too) = record { one_state = refl; one_line = one_line made line said is is_too }

@@ -14,7 +14,7 @@ use Rattle.config_spec.specs.Projects.{IsConfigOf}
 use Rattle.config_spec.specs.declared.Command.{Command}
 use Rattle.config_spec.specs.declared.Command.TheVariants.{Refresh, Vendor}
 use Rattle.generator_spec.proofs.Configs.{command_is}
-use Rattle.generator_spec.specs.Commands.{IsRefusalOf, IsRefusalOf as kind, Refuses, Refuses as refuses}
+use Rattle.generator_spec.specs.Commands.{IsChecking, IsChecking as checking, IsRefusalOf, IsRefusalOf as kind, Refuses, Refuses as refuses}
 use Rattle.generator_spec.specs.Ending.{CanRefuse, CanRefuse as can}
 use Rattle.generator_spec.specs.Lines.{limit_line}
 use Rattle.generator_spec.specs.Outcome.{RefusesRun, RefusesRun as runs}
@@ -31,9 +31,14 @@ use Rattle.session_spec.proofs.WholeSessions.{asks_anew}
 
 -- ---- a refusal
 
+no_check : (command : Command) → IsChecking command → command ≡ Refresh → ⊥
+no_check _ checking.plainly same = absurd (cc)
+no_check _ checking.strictly same = absurd (cc)
+
 refuses_by : (tree : Tree) (config : Config) (command : Command) (why : Refusal) → command ≡ Refresh → Refuses tree config command why → IsRefusalOf config Refresh why
 refuses_by tree config _ _ same (refuses.page fault is) = absurd (cc)
-refuses_by tree config _ _ same (refuses.map_file fault is) = absurd (cc)
+refuses_by tree config _ _ same (refuses.map_file command fault checks is) = absurd (no_check command checks same)
+refuses_by tree config _ _ same (refuses.nested map all answers holds traces are deep) = absurd (cc)
 refuses_by tree config _ _ same (refuses.trace command fault opens is) = kind.trace Refresh fault (refuses_by_kind (get tree) config fault is)
 refuses_by tree config _ _ same (refuses.many_choices command generating opens is) = kind.many_choices Refresh tt
 refuses_by tree config _ _ same (refuses.large_map command generating opens is) = kind.large_map Refresh tt

@@ -30,7 +30,7 @@ use Rattle.trace_walk.specs.declared.tables.Name.{Name}
 use Rattle.trace_walk.specs.declared.tables.Tables.{Tables}
 use Rattle.module_sources.specs.Shown.{source_of}
 use Rattle.trace_walk.specs.Shown.{module_at, before_of, done}
-use Rattle.trace_walk.specs.Walking.{IsReferrer, IsNamed, AllNamed, AllInside, AreBeside, IsAdded, IsGiven, Grows}
+use Rattle.trace_walk.specs.Walking.{IsReferrer, IsNamed, AllNamed, AllInside, AllRead, AreBeside, IsAdded, IsGiven, Grows}
 use Rattle.trace_walk.specs.Kinds.{IsOfWalk}
 use Rattle.trace_walk.specs.Putting.{IsKnown, Puts}
 use Rattle.trace_walk.specs.Refusing.{clash_by, IsClash, IsMisnamed}
@@ -92,6 +92,7 @@ beside_more old new need spelling place put beside placed = record {
   spelled = put.added.beside;
   placed = placed;
   inside = subst (λ sources. AllInside sources.items) (sym put.sources) beside.inside;
+  read = subst (λ sources. AllRead (map source_of sources.items)) (sym put.sources) beside.read;
 }
 
 pub grows_by_one : (config : Config) (old new : Tables) (need : Need) (spelling : Spelling) (name : Name) → AreBeside old → length old.targets.items < limit_number Requests → length old.modules.entries < limit_number Modules

@@ -26,10 +26,10 @@ use Rattle.trace_walk.specs.declared.tables.Tables.{Tables}
 use Rattle.trace_walk.specs.Meeting.{AnswererState, fine, Met}
 use Rattle.module_sources.specs.declared.source.NoSource.{NoSource}
 use Rattle.module_sources.specs.declared.source.NoSource.TheVariants.{NotModule, Above}
-use Rattle.module_sources.specs.Shown.{AreInside, source_of, no_source_of}
+use Rattle.module_sources.specs.Shown.{AreInside, IsRead, source_of, no_source_of}
 use Rattle.trace_walk.specs.Shown.{module_at, before_of, done}
 use Rattle.trace_walk.specs.Refusing.{no_source_fault}
-use Rattle.trace_walk.specs.Walking.{IsReferrer, IsNamed, AllNamed, AllInside, AreBeside, AreEmpty, AreOfUrls, module_requests, IsGiven, Grows, IsWhole, IsUnserved}
+use Rattle.trace_walk.specs.Walking.{IsReferrer, IsNamed, AllNamed, AllInside, AllRead, AreBeside, AreEmpty, AreOfUrls, module_requests, IsGiven, Grows, IsWhole, IsUnserved}
 use Rattle.trace_walk.proofs.TableLemmas.{keys_of-length}
 use Rattle.trace_walk.proofs.FaultKinds.{handed}
 use Rattle.trace_walk.proofs.Meetings.{met_then, met_failed, met_lost, met_now, Left}
@@ -71,13 +71,16 @@ grows_by_visit config tables pushed new source modules sources needs targets gro
     }
 
 pub beside_pushed : (tables pushed : Tables) (source : Source) → pushed.modules ≡ tables.modules → pushed.sources.items ≡ tables.sources.items ++ source ∷ [] → pushed.needs ≡ tables.needs → pushed.spellings ≡ tables.spellings
-    → pushed.targets ≡ tables.targets → AreInside source.bytes.value source.requests.value → AreBeside tables → AreBeside pushed
+    → pushed.targets ≡ tables.targets → AreInside source.bytes.value source.requests.value × IsRead source.bytes.value → AreBeside tables → AreBeside pushed
 beside_pushed tables pushed source modules sources needs spellings targets inside beside = record {
   spelled = ap (λ ss. length ss.items) spellings ∙ (beside.spelled ∙ sym (ap length needs));
   placed = subst (λ ms. All (λ place. place < length ms.entries) pushed.targets.items) (sym modules)
       (subst (λ ts. All (λ place. place < length tables.modules.entries) ts.items) (sym targets) beside.placed);
   inside = subst AllInside (sym sources)
-      (All-push (λ (s : Source). AreInside s.bytes.value s.requests.value) tables.sources.items source beside.inside inside);
+      (All-push (λ (s : Source). AreInside s.bytes.value s.requests.value) tables.sources.items source beside.inside inside.0);
+  read = subst (λ ss. AllRead (map source_of ss)) (sym sources)
+      (subst AllRead (sym (map-append source_of tables.sources.items (source ∷ [])))
+      (All-push (λ (s : spec.Source). IsRead s.bytes) (map source_of tables.sources.items) (source_of source) beside.read inside.1));
 }
 
 pub nothing_beside : (tables : Tables) → AreEmpty tables → AreBeside tables
@@ -85,6 +88,7 @@ nothing_beside tables empty = record {
   spelled = ap length empty.spellings ∙ sym (ap length empty.needs);
   placed = subst (All (λ place. place < length tables.modules.entries)) (sym empty.targets) (All-nil (λ place. place < length tables.modules.entries));
   inside = subst AllInside (sym empty.sources) (All-nil (λ (s : Source). AreInside s.bytes.value s.requests.value));
+  read = subst (λ ss. AllRead (map source_of ss)) (sym empty.sources) (All-nil (λ (s : spec.Source). IsRead s.bytes));
 }
 
 -- the tables behind the page's visit and those of all modules
@@ -100,6 +104,7 @@ whole_by config empty paged tables modules sources needs targets page all urls c
       few = (let few = all.few (page.few (omega (arith, none))) in omega (arith, few, keys));
       few_requests = (let few = all.requests (page.requests (let none = ap length targets in omega (arith, none))) in let same = length-map tables.targets.items (module_at (keys_of tables.modules.entries)) in omega (arith, few, same));
       counted = (let same = length-map tables.targets.items (module_at (keys_of tables.modules.entries)) in omega (arith, counted, same));
+      read = all.beside.read;
       spelled = all.beside.spelled;
       clear = all.clear (page.clear (subst NoClash (sym needs) (λ one other c d. absurd (contains_none one c))));
       urls = urls;

@@ -5,8 +5,9 @@
 --     AreEmpty tables                       nothing is in the tables yet
 --     AllNamed config entries               each module stands with its web name, which is no folder's, and the text
 --                                           of that
+--     AllRead sources                       the bytes of each source are a text that has an outline
 --     AreBeside tables                      each need has its spelling, each target is the place of a module, and the
---                                           requests of each source stand in its bytes
+--                                           requests of each source stand in its bytes, which are read
 --     module_requests sources               how many requests these sources have together
 --     Counts more old new                   the targets grow by one to each request of the new sources, and so many
 --                                           more
@@ -15,9 +16,9 @@
 --     KeepsUrls asks old new                where the fact `asks` holds, the needs stay of URLs
 --     Grows config visits old new           the tables grow by so many visits, and keep few modules, each with its
 --                                           name, and few requests
---     IsWhole tables                        each module has its source, there aren't too many, nor too many requests,
---                                           among which are all those of the modules; no two needs clash, and the
---                                           referrer of each is a URL
+--     IsWhole tables                        each module has its source, which is read, there aren't too many, nor too
+--                                           many requests, among which are all those of the modules; no two needs
+--                                           clash, and the referrer of each is a URL
 --     IsGiven definition result             a part gives what the definition says, unless memory is wanting
 --     IsUnserved config path suffix fault   the refusal of what isn't served at its web name
 --     wanted_of name asked                  what a referrer of this name asks for
@@ -32,7 +33,7 @@
 --                                           a part of the walk that is one request: one step at most, and one request
 --                                           more in the tables, unless it is refused
 use Rattle.std.specs.Prelude.{◌≡◌, ◌≢◌, ◌≤◌, ◌<◌, ◌+◌, ◌++◌, [], ℕ, List, length, Some, None, Result, Ok, Err}
-use Rattle.std.specs.Prelude.{All, false, IfErr, OnOk, flat_map}
+use Rattle.std.specs.Prelude.{All, false, IfErr, OnOk, flat_map, map}
 use Rattle.std.specs.List.{list_any}
 use Rattle.tree_spec.specs.declared.LimitName.TheVariants.{Modules, Requests}
 use Rattle.tree_spec.specs.Limits.{limit_number}
@@ -47,7 +48,7 @@ use Rattle.trace_spec.specs.Modules.{Config, Module, path_of, web_name, shown, s
 use Rattle.url_spec.specs.Parsing.{IsUrl}
 use Rattle.url_spec.specs.WebNames.{web}
 use Rattle.module_sources.specs.declared.source.Source as code
-use Rattle.module_sources.specs.Shown.{AreInside}
+use Rattle.module_sources.specs.Shown.{AreInside, IsRead, source_of}
 use Rattle.trace_walk.specs.declared.referrer.Referrer.{Referrer}
 use Rattle.trace_walk.specs.declared.tables.Name.{Name}
 use Rattle.trace_walk.specs.declared.tables.Tables.{Tables}
@@ -84,10 +85,14 @@ AllNamed config entries = All (λ entry. IsNamed config entry.0 entry.1) entries
 abbrev pub AllInside : List code.Source → Type 0
 AllInside sources = All (λ source. AreInside source.bytes.value source.requests.value) sources
 
+abbrev pub AllRead : List Source → Type 0
+AllRead sources = All (λ source. IsRead source.bytes) sources
+
 pub record AreBeside (tables : Tables) : Type 0 where
   pub spelled : length tables.spellings.items ≡ length tables.needs
   pub placed : All (λ place. place < length tables.modules.entries) tables.targets.items
   pub inside : AllInside tables.sources.items
+  pub read : AllRead (map source_of tables.sources.items)
 
 abbrev pub module_requests : List Source → ℕ
 module_requests sources = length (flat_map (λ source. source.specifiers) sources)
@@ -131,6 +136,7 @@ pub record Grows (config : Config) (visits : ℕ) (old new : Tables) : Type 0 wh
 -- own: the tables behind the last visit
 pub record IsWhole (tables : Gathered) : Type 0 where
   pub visited : length tables.sources ≡ length tables.modules
+  pub read : AllRead tables.sources
   pub few : length tables.modules ≤ limit_number Modules
   pub few_requests : length tables.targets ≤ limit_number Requests
   pub counted : module_requests tables.sources ≤ length tables.targets

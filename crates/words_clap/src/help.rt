@@ -50,6 +50,8 @@ pub(crate) const INJECT: &str = "Write the page with the map in it";
 pub(crate) const CHECK: &str =
     "Compare the map's file with what the modules need, and write nothing";
 
+pub(crate) const STRICT: &str = "Compare each module with the grammar of statements, too";
+
 pub(crate) const LIST: &str = "Print the modules, each with the number of its requests";
 
 pub(crate) const WHY: &str = "Print the shortest chain of imports from the page to a file";

@@ -3,7 +3,7 @@ ghost use Rattle.clap.specs.Words.{app_of, rule_of};
 ghost use Rattle.clap.specs.declared.builder.Command.TheViews.{out-Command as fields_of};
 ghost use Rattle.words_clap_spec.specs.Program as spec;
 ghost use Rattle.words_clap_spec.specs.Program.{entries_rule, link_command, measure_command, number_rule, option_rule};
-ghost use Rattle.words_clap_spec.specs.Program.{path_command, path_rule, program, unlink_command};
+ghost use Rattle.words_clap_spec.specs.Program.{check_command, path_command, path_rule, program, strict_rule, unlink_command};
 
 use crate::help;
 use clap::{Arg, ArgAction, Command};
@@ -18,7 +18,7 @@ pub fn command<'a>(alloc: Global) -> Result<Command<'a>, AllocError>
         .subcommand(unlink(alloc)?)?
         .subcommand(plain(alloc, "refresh", help::REFRESH))?
         .subcommand(plain(alloc, "inject", help::INJECT))?
-        .subcommand(plain(alloc, "check", help::CHECK))?
+        .subcommand(check(alloc)?)?
         .subcommand(plain(alloc, "list", help::LIST))?
         .subcommand(why(alloc)?)?
         .subcommand(vendor(alloc)?)?
@@ -58,6 +58,15 @@ fn unlink<'a>(alloc: Global) -> Result<Command<'a>, AllocError>
     Command::new(alloc, "unlink")
         .about(help::UNLINK)
         .arg(entries(alloc, help::UNLINKED).required(true))
+}
+
+fn check<'a>(alloc: Global) -> Result<Command<'a>, AllocError>
+    ensures app { IfOk result (λ command. app_of command ≡ check_command) }
+    ensures local { IfOk result (λ command. (fields_of command).has_globals ≡ false) }
+{
+    Command::new(alloc, "check")
+        .about(help::CHECK)
+        .arg(strict(alloc))
 }
 
 fn why<'a>(alloc: Global) -> Result<Command<'a>, AllocError>
@@ -112,6 +121,16 @@ fn entries<'a>(alloc: Global, about: &'a str) -> Arg<'a>
         .action(ArgAction::Append)
         .value_name("ENTRY")
         .help(about)
+}
+
+fn strict<'a>(alloc: Global) -> Arg<'a>
+    ensures rule { rule_of result ≡ strict_rule }
+    ensures local { result.global ≡ false }
+{
+    Arg::new(alloc, "strict")
+        .long("strict")
+        .action(ArgAction::SetTrue)
+        .help(help::STRICT)
 }
 
 fn path<'a>(alloc: Global, about: &'a str) -> Arg<'a>

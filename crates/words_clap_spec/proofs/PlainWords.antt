@@ -9,7 +9,7 @@ use Rattle.std.specs.Int.Digits.{digits_of}
 use Rattle.std.specs.List.{All, fold, list_all}
 use Rattle.std.proofs.Common.{◌≡◌, ◌≢◌, ◌<◌, ◌+◌, ◌&&◌, ℕ, List, [], ◌∷◌, ◌++◌, append-nil, append_assoc, codes, length, map, Option, Some, true, false, is_some, refl, sym, ap, ap₂, ◌∙◌, subst, arith}
 use Rattle.std.proofs.lemmas.Fmt.{decimal-digits_of, decimal_nonempty}
-use Rattle.words_spec.specs.PlainWords.{Asked, Asks, IsValue, LinkOptions, LinkWords, no_options, linking, unlinking, explaining, vendoring, measuring, link, unlink, refresh, check, list, inject, session, why, vendor, measure}
+use Rattle.words_spec.specs.PlainWords.{Asked, Asks, IsValue, LinkOptions, LinkWords, no_options, linking, unlinking, explaining, vendoring, measuring, link, unlink, refresh, check, check_strictly, list, inject, session, why, vendor, measure}
 use Rattle.words_clap_spec.specs.Holding.{Holds, HoldsLink, row}
 use Rattle.words_clap_spec.specs.Laws.{HelpIsAskedFor, PlainWordsAreHeld, PlainWordsPass, ProgramIsSimple}
 use Rattle.words_clap_spec.specs.Program.{program}
@@ -144,6 +144,7 @@ taken (link plain) = link_taken _ _ plain
 taken (unlink word words all) = unlink_taken word words all
 taken refresh = record { is_taken = refl; held = refl }
 taken check = record { is_taken = refl; held = refl }
+taken check_strictly = record { is_taken = refl; held = refl }
 taken list = record { is_taken = refl; held = refl }
 taken inject = record { is_taken = refl; held = refl }
 taken session = record { is_taken = refl; held = refl }

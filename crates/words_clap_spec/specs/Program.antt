@@ -3,11 +3,12 @@
 --     top          the program without them
 --     link_command, unlink_command, measure_command      the commands that take words
 --     path_command name      a command that takes a path
---     option_rule name, entries_rule, path_rule, number_rule     their arguments
+--     check_command      the command that takes a flag
+--     option_rule name, entries_rule, path_rule, number_rule, strict_rule     their arguments
 --     plain_command name      a command that takes nothing
 use Rattle.clap.specs.Simple.{on_top}
 use Rattle.clap.specs.Words.{App, Rule, Text, new_app, new_rule, with_rule, with_subcommand}
-use Rattle.clap.specs.declared.builder.action.ArgAction.TheVariants.{Append}
+use Rattle.clap.specs.declared.builder.action.ArgAction.TheVariants.{Append, SetTrue}
 use Rattle.std.specs.Prelude.{codes, Some, true}
 
 abbrev pub option_rule : Text → Rule
@@ -22,6 +23,9 @@ path_rule = record (new_rule (codes "path")) { value_names = 1; required = true 
 abbrev pub number_rule : Rule
 number_rule = record (new_rule (codes "number")) { value_names = 1; required = true }
 
+abbrev pub strict_rule : Rule
+strict_rule = record (new_rule (codes "strict")) { long = Some (codes "strict"); action = Some SetTrue }
+
 abbrev pub link_command : App
 link_command =
     with_rule (with_rule (with_rule (with_rule (new_app (codes "link"))
@@ -32,6 +36,9 @@ unlink_command = with_rule (new_app (codes "unlink")) (record entries_rule { req
 
 abbrev pub path_command : Text → App
 path_command name = with_rule (new_app name) path_rule
+
+abbrev pub check_command : App
+check_command = with_rule (new_app (codes "check")) strict_rule
 
 abbrev pub measure_command : App
 measure_command = with_rule (new_app (codes "measure")) number_rule
@@ -51,5 +58,5 @@ program =
     with_subcommand (with_subcommand (with_subcommand (with_subcommand (with_subcommand (with_subcommand
     (with_subcommand (with_subcommand (with_subcommand (with_subcommand top
     link_command.top) unlink_command.top) (plain_command (codes "refresh")).top) (plain_command (codes "inject")).top)
-    (plain_command (codes "check")).top) (plain_command (codes "list")).top) (path_command (codes "why")).top)
+    check_command.top) (plain_command (codes "list")).top) (path_command (codes "why")).top)
     (path_command (codes "vendor")).top) (plain_command (codes "session")).top) measure_command.top

@@ -10,7 +10,7 @@ use Rattle.words_read.specs.declared.command.Command.TheVariants as command
 use Rattle.words_read.specs.declared.spelling.Spelling.{Spelling}
 use Rattle.words_read.specs.declared.spelling.Spelling.TheVariants as spelling
 use Rattle.words_spec.specs.PlainWords.{Asked, Asks, LinkOptions, linking, unlinking, refreshing, checking, listing}
-use Rattle.words_spec.specs.PlainWords.{injecting, editing, explaining, vendoring, measuring}
+use Rattle.words_spec.specs.PlainWords.{checking_strictly, injecting, editing, explaining, vendoring, measuring}
 use Rattle.words_spec.specs.Reading as reading
 
 abbrev pub options_of : LinkValues → LinkOptions
@@ -30,6 +30,7 @@ shown (command.Link values entries) = linking (options_of values) (map string_by
 shown (command.Unlink entries) = unlinking (map string_bytes entries.now)
 shown command.Refresh = refreshing
 shown command.Check = checking
+shown command.CheckStrictly = checking_strictly
 shown command.List = listing
 shown command.Inject = injecting
 shown command.Session = editing

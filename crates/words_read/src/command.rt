@@ -20,6 +20,8 @@ pub enum Command<'a> {
     Refresh,
     /// To compare the map's file with what is needed.
     Check,
+    /// The same, and to compare each module with the statement grammar.
+    CheckStrictly,
     /// To print the modules.
     List,
     /// To write the page with the map in it.

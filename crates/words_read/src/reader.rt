@@ -36,6 +36,9 @@ fn reading_of(words: &[String]) -> Option<Command<'_>>
     if command == "vendor" {
         return vendor_of(rest);
     }
+    if command == "check" {
+        return check_of(rest);
+    }
     if !rest.is_empty() {
         return None;
     }
@@ -92,13 +95,26 @@ fn vendor_of(words: &[String]) -> Option<Command<'_>>
     Some(Command::Vendor(path.as_str()))
 }
 
+fn check_of(words: &[String]) -> Option<Command<'_>>
+    ensures { option_map shown result ≡ reading.check_reading (map string_bytes words.now) }
+{
+    match words.split_first() {
+        None => Some(Command::Check),
+        Some((word, rest)) => {
+            if rest.is_empty() && word.as_str() == "--strict" {
+                Some(Command::CheckStrictly)
+            } else {
+                None
+            }
+        }
+    }
+}
+
 fn plain_command(command: &str) -> Option<Command<'_>>
     ensures { option_map shown result ≡ reading.plain_command command.now }
 {
     if command == "refresh" {
         Some(Command::Refresh)
-    } else if command == "check" {
-        Some(Command::Check)
     } else if command == "list" {
         Some(Command::List)
     } else if command == "inject" {

@@ -10,7 +10,7 @@ use Rattle.std.proofs.lemmas.List.Elements.{All-head}
 use Rattle.words_spec.specs.declared.LinkOption.{LinkOption}
 use Rattle.words_spec.specs.declared.LinkOption.TheVariants.{Base, Page, Conditions}
 use Rattle.words_spec.specs.Laws.{OneAsked}
-use Rattle.words_spec.specs.PlainWords.{Asked, Asks, IsValue, LinkOptions, LinkWords, spelled, value_of, with_value, linking, unlinking, explaining, vendoring, measuring, entries, two_words, one_word, link, unlink, refresh, check, list, inject, session, why, vendor, measure}
+use Rattle.words_spec.specs.PlainWords.{Asked, Asks, IsValue, LinkOptions, LinkWords, spelled, value_of, with_value, linking, unlinking, explaining, vendoring, measuring, entries, two_words, one_word, link, unlink, refresh, check, check_strictly, list, inject, session, why, vendor, measure}
 use Rattle.words_spec.specs.Reading.{behind, by_spelling, entries_reading, link_reading, next_number, no_option, number_in, one_more, or_else, reading_of, spelling_as, spelling_by, spelling_of, with_number}
 use Rattle.words_spec.proofs.Values.{no_hyphen_first, value_passes, values_pass}
 
@@ -96,6 +96,7 @@ plain_is_read (unlink first more all) =
     ap (λ all_pass. if all_pass then Some (unlinking (first ∷ more)) else None) (values_pass (first ∷ more) all)
 plain_is_read refresh = refl
 plain_is_read check = refl
+plain_is_read check_strictly = refl
 plain_is_read list = refl
 plain_is_read inject = refl
 plain_is_read session = refl

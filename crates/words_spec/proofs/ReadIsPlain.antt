@@ -12,8 +12,8 @@ use Rattle.std.proofs.lemmas.Slice.Eq.{bytes_eq-Decides}
 use Rattle.words_spec.specs.declared.LinkOption.{LinkOption}
 use Rattle.words_spec.specs.declared.LinkOption.TheVariants.{Base, Page, Conditions}
 use Rattle.words_spec.specs.Laws.{ReadingIsExact}
-use Rattle.words_spec.specs.PlainWords.{Asked, Asks, IsValue, LinkOptions, LinkWords, no_options, spelled, value_of, with_value, linking, unlinking, explaining, vendoring, measuring, entries, two_words, one_word, link, unlink, refresh, check, list, inject, session, why, vendor, measure}
-use Rattle.words_spec.specs.Reading.{Spelling, no_option, alone, joined, behind, by_spelling, entries_reading, is_value, link_reading, measure_reading, next_number, number_in, one_more, or_else, path_reading, plain_command, reading_of, spelling_as, spelling_by, spelling_of, unlink_reading, with_number, without_more}
+use Rattle.words_spec.specs.PlainWords.{Asked, Asks, IsValue, LinkOptions, LinkWords, no_options, spelled, value_of, with_value, linking, unlinking, explaining, vendoring, checking_strictly, measuring, entries, two_words, one_word, link, unlink, refresh, check, check_strictly, list, inject, session, why, vendor, measure}
+use Rattle.words_spec.specs.Reading.{Spelling, no_option, alone, joined, behind, by_spelling, check_reading, entries_reading, is_value, link_reading, measure_reading, next_number, number_in, one_more, or_else, path_reading, plain_command, reading_of, spelling_as, spelling_by, spelling_of, unlink_reading, with_number, without_more}
 use Rattle.words_spec.proofs.PlainIsRead.{plain_is_read}
 use Rattle.words_spec.proofs.Values.{passed_value, passed_values}
 
@@ -236,14 +236,24 @@ by_name name command rest asked chosen other is_chosen is_other is = by_test (by
 asks_same : (words : List (List ℕ)) (some asked : Asked) → Asks words some → Some some ≡ Some asked → Asks words asked
 asks_same words some asked plain is = subst (λ a. Asks words a) (let same : some ≡ asked = cc in same) plain
 
+check_back : (words : List (List ℕ)) (asked : Asked) → check_reading words ≡ Some asked → Asks (codes "check" ∷ words) asked
+check_back [] asked is = asks_same _ _ asked check is
+check_back (word ∷ more ∷ rest) asked is = absurd (let bad : None ≡ Some asked = is in cc)
+check_back (word ∷ []) asked is = by_test (bytes_eq word (codes "--strict")) refl is
+  where
+    by_test : (same : Bool) → bytes_eq word (codes "--strict") ≡ same → (if same then Some checking_strictly else None) ≡ Some asked → Asks (codes "check" ∷ word ∷ []) asked
+    by_test false same is = absurd (let bad : None ≡ Some asked = is in cc)
+    by_test true same is =
+        subst (λ w. Asks (codes "check" ∷ w ∷ []) asked) (sym ((bytes_eq-Decides word (codes "--strict")).0 same))
+        (asks_same _ _ asked check_strictly is)
+
 plain_command_back : (command : List ℕ) (asked : Asked) → plain_command command ≡ Some asked → Asks (command ∷ []) asked
 plain_command_back command asked =
     by_name (codes "refresh") command [] asked _ _ (asks_same _ _ asked refresh)
-    (by_name (codes "check") command [] asked _ _ (asks_same _ _ asked check)
     (by_name (codes "list") command [] asked _ _ (asks_same _ _ asked list)
     (by_name (codes "inject") command [] asked _ _ (asks_same _ _ asked inject)
     (by_name (codes "session") command [] asked _ _ (asks_same _ _ asked session)
-    (λ is. absurd (let bad : None ≡ Some asked = is in cc))))))
+    (λ is. absurd (let bad : None ≡ Some asked = is in cc)))))
 
 without_more_back : (command : List ℕ) (rest : List (List ℕ)) (asked : Asked) → without_more rest (plain_command command) ≡ Some asked → Asks (command ∷ rest) asked
 without_more_back command [] asked is = plain_command_back command asked is
@@ -257,7 +267,8 @@ read_is_plain (command ∷ rest) asked is =
     (by_name (codes "measure") command rest asked _ _ (measure_back rest asked)
     (by_name (codes "why") command rest asked _ _ (path_back (codes "why") explaining why rest asked)
     (by_name (codes "vendor") command rest asked _ _ (path_back (codes "vendor") vendoring vendor rest asked)
-    (without_more_back command rest asked))))) is
+    (by_name (codes "check") command rest asked _ _ (check_back rest asked)
+    (without_more_back command rest asked)))))) is
 
 pub reading_is_exact : ReadingIsExact
 reading_is_exact words asked = (read_is_plain words asked, plain_is_read)

@@ -47,6 +47,7 @@ pub data Asked : Type 0 where
   unlinking : List (List ℕ) → Asked
   refreshing : Asked
   checking : Asked
+  checking_strictly : Asked
   listing : Asked
   injecting : Asked
   editing : Asked
@@ -81,6 +82,7 @@ pub data Asks : List (List ℕ) → Asked → Type 0 where
       → Asks (codes "unlink" ∷ entry ∷ entries) (unlinking (entry ∷ entries))
   refresh : Asks (codes "refresh" ∷ []) refreshing
   check : Asks (codes "check" ∷ []) checking
+  check_strictly : Asks (codes "check" ∷ codes "--strict" ∷ []) checking_strictly
   list : Asks (codes "list" ∷ []) listing
   inject : Asks (codes "inject" ∷ []) injecting
   session : Asks (codes "session" ∷ []) editing

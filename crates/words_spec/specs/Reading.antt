@@ -14,6 +14,7 @@
 --     with_number number next      what comes of a number, where there is one
 --     measure_reading words, unlink_reading words, path_reading asked words      what is asked for by the words after
 --         `measure`, after `unlink`, after a command that takes one path
+--     check_reading words      what is asked for by the words after `check`
 --     without_more words asked      what is asked for, where no word is left
 --     command_reading command rest      what is asked for by a command's name and the words behind it
 use Rattle.std.specs.List.{list_all}
@@ -22,8 +23,8 @@ use Rattle.std.specs.Prelude.{Option, Some, None, if◌then◌else◌, nat_lt, i
 use Rattle.words_spec.specs.declared.LinkOption.{LinkOption}
 use Rattle.words_spec.specs.declared.LinkOption.TheVariants.{Base, Page, Conditions}
 use Rattle.words_spec.specs.PlainWords.{Asked, LinkOptions, no_options, spelled, value_of, with_value, linking}
-use Rattle.words_spec.specs.PlainWords.{unlinking, refreshing, checking, listing, injecting, editing, explaining}
-use Rattle.words_spec.specs.PlainWords.{vendoring, measuring, most_packages}
+use Rattle.words_spec.specs.PlainWords.{unlinking, refreshing, checking, checking_strictly, listing, injecting}
+use Rattle.words_spec.specs.PlainWords.{editing, explaining, vendoring, measuring, most_packages}
 
 abbrev pub is_value : List ℕ → Bool
 is_value [] = false
@@ -110,14 +111,18 @@ path_reading asked [] = None
 path_reading asked (path ∷ []) = if is_value path then Some (asked path) else None
 path_reading asked (path ∷ more ∷ rest) = None
 
+abbrev pub check_reading : List (List ℕ) → Option Asked
+check_reading [] = Some checking
+check_reading (word ∷ []) = if bytes_eq word (codes "--strict") then Some checking_strictly else None
+check_reading (word ∷ more ∷ rest) = None
+
 -- the commands that take nothing
 abbrev pub plain_command : List ℕ → Option Asked
 plain_command command =
     if bytes_eq command (codes "refresh") then Some refreshing
-    else (if bytes_eq command (codes "check") then Some checking
     else (if bytes_eq command (codes "list") then Some listing
     else (if bytes_eq command (codes "inject") then Some injecting
-    else (if bytes_eq command (codes "session") then Some editing else None))))
+    else (if bytes_eq command (codes "session") then Some editing else None)))
 
 abbrev pub without_more : List (List ℕ) → Option Asked → Option Asked
 without_more [] asked = asked
@@ -130,7 +135,8 @@ command_reading command rest =
     else (if bytes_eq command (codes "measure") then measure_reading rest
     else (if bytes_eq command (codes "why") then path_reading explaining rest
     else (if bytes_eq command (codes "vendor") then path_reading vendoring rest
-    else without_more rest (plain_command command)))))
+    else (if bytes_eq command (codes "check") then check_reading rest
+    else without_more rest (plain_command command))))))
 
 abbrev pub reading_of : List (List ℕ) → Option Asked
 reading_of [] = None

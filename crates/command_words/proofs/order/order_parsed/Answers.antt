@@ -16,6 +16,10 @@ pub returns-in-Check : goal.returns-in-Check
 returns-in-Check c =
     same_asked _ _ _ (ap shown c.in-Check.is) (record { same = refl; is = refl; sets = no_settings_set })
 
+pub returns-in-CheckStrictly : goal.returns-in-CheckStrictly
+returns-in-CheckStrictly c =
+    same_asked _ _ _ (ap shown c.in-CheckStrictly.is) (record { same = refl; is = refl; sets = no_settings_set })
+
 pub returns-in-Inject : goal.returns-in-Inject
 returns-in-Inject c =
     same_asked _ _ _ (ap shown c.in-Inject.is) (record { same = refl; is = refl; sets = no_settings_set })

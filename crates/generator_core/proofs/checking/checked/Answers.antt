@@ -1,27 +1,27 @@
 use Rattle.std.proofs.Common.{subst}
 use Rattle.generator_core.specs.Checking.{FindsMapText, FindsMap}
-use Rattle.generator_core.proofs.Checkings.{text_refused, map_refused, text_still, checks_behind}
+use Rattle.generator_core.proofs.Checkings.{asks_checking, text_refused, map_refused, text_still, checks_behind}
 use Rattle.generator_core.proofs.checking.checked.Goals as goal
 
 pub returns-in-Err-clause-checks : goal.returns-in-Err-clause-checks
-returns-in-Err-clause-checks g c =
+returns-in-Err-clause-checks g c = λ command asks.
     let before = g.F.Folder.state c.args.folder.now in
     let after = g.F.Folder.state c.map_text.new.folder in
-    text_refused c.args.config.now before after c.in-Err.stop (subst (λ r. FindsMapText before r after) c.in-Err.is c.map_text.ensures)
+    text_refused c.args.config.now before after command (asks_checking command c.args.strictly asks) c.in-Err.stop (subst (λ r. FindsMapText before r after) c.in-Err.is c.map_text.ensures)
 
 pub returns-in-Err-map_of-clause-checks : goal.returns-in-Err-map_of-clause-checks
-returns-in-Err-map_of-clause-checks g c =
+returns-in-Err-map_of-clause-checks g c = λ command asks.
     let before = g.F.Folder.state c.args.folder.now in
     let after = g.F.Folder.state c.map_text.new.folder in
-    map_refused c.args.config.now before after c.in-Ok.text c.in-Err-map_of.stop (subst (λ r. FindsMapText before r after) c.in-Ok.is c.map_text.ensures)
+    map_refused c.args.config.now before after command (asks_checking command c.args.strictly asks) c.in-Ok.text c.in-Err-map_of.stop (subst (λ r. FindsMapText before r after) c.in-Ok.is c.map_text.ensures)
     (subst (λ r. FindsMap c.args.config.now c.in-Ok.text r) c.in-Err-map_of.is (subst (λ t. FindsMap c.args.config.now t c.map_of.result) c.as_slice.ensures c.map_of.ensures)).stopped
 
 pub returns-clause-checks : goal.returns-clause-checks
-returns-clause-checks g c =
+returns-clause-checks g c = λ command asks.
     let before = g.F.Folder.state c.args.folder.now in
     let middle = g.F.Folder.state c.map_text.new.folder in
     let after = g.F.Folder.state c.checked_by.new.folder in
     let found = subst (λ r. FindsMapText before r middle) c.in-Ok.is c.map_text.ensures in
-    checks_behind c.args.config.now before middle after c.in-Ok.text c.checked_by.result found
+    checks_behind command c.args.config.now before middle after c.in-Ok.text c.checked_by.result found
     (c.checked_by.ensures.checks (text_still c.args.config.now before middle c.in-Ok.text c.in-Ok-map_of.parsed found
-    (subst (λ r. FindsMap c.args.config.now c.in-Ok.text r) c.in-Ok-map_of.is (subst (λ t. FindsMap c.args.config.now t c.map_of.result) c.as_slice.ensures c.map_of.ensures)).reads))
+    (subst (λ r. FindsMap c.args.config.now c.in-Ok.text r) c.in-Ok-map_of.is (subst (λ t. FindsMap c.args.config.now t c.map_of.result) c.as_slice.ensures c.map_of.ensures)).reads) command asks)

@@ -2,7 +2,8 @@ use Rattle.std.proofs.Common.{◌≡◌, ℕ, sym, subst}
 use Rattle.tree_spec.specs.States.{FolderState, SinkState}
 use Rattle.trace_spec.specs.Modules.{Config}
 use Rattle.config_spec.specs.declared.Command.{Command}
-use Rattle.config_spec.specs.declared.Command.TheVariants.{Link, Unlink, Refresh}
+use Rattle.config_spec.specs.declared.Command.TheVariants.{Link, Unlink, Refresh, Check, CheckStrictly}
+use Rattle.generator_core.specs.Checking.{AsksGrammar as asks}
 use Rattle.generator_core.specs.Preparing.{KeepsProject as keeps}
 use Rattle.generator_core.specs.Running.{RunsCommand}
 use Rattle.generator_core.proofs.running.commanded.Goals as goal
@@ -25,7 +26,10 @@ pub returns-in-Inject : goal.returns-in-Inject
 returns-in-Inject g c = runs_as _ _ _ _ _ _ _ _ _ _ c.in-Inject.is c.inject.ensures
 
 pub returns-in-Check : goal.returns-in-Check
-returns-in-Check g c = runs_as _ _ _ _ _ _ _ _ _ _ c.in-Check.is c.check.ensures
+returns-in-Check g c = runs_as _ _ _ _ _ _ _ _ _ _ c.in-Check.is (c.check.ensures Check asks.plainly)
+
+pub returns-in-CheckStrictly : goal.returns-in-CheckStrictly
+returns-in-CheckStrictly g c = runs_as _ _ _ _ _ _ _ _ _ _ c.in-CheckStrictly.is (c.check-in-CheckStrictly.ensures CheckStrictly asks.strictly)
 
 pub returns-in-List : goal.returns-in-List
 returns-in-List g c = runs_as _ _ _ _ _ _ _ _ _ _ c.in-List.is c.list.ensures

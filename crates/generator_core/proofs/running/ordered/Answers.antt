@@ -3,7 +3,7 @@ use Rattle.command_words.specs.Orders.{command_ordered}
 use Rattle.generator_spec.specs.Commands.{IsGenerating}
 use Rattle.generator_spec.specs.Asked.{AsksInOrder, IsConfigAt}
 use Rattle.generator_core.specs.Configuring.{FindsConfig}
-use Rattle.generator_core.proofs.Endings.{config_stop_end, ends_from, stop_spends}
+use Rattle.generator_core.proofs.Endings.{config_stop_end, ends_from, order_spends, stop_spends}
 use Rattle.generator_core.proofs.Runs.{command_is, config_asks, config_still, for_all_words, not_vendor, not_why, project_asks}
 use Rattle.generator_core.proofs.running.ordered.Goals as goal
 
@@ -38,7 +38,8 @@ returns-in-Ok-clause-asked g c =
 pub returns-in-Ok-clause-steps : goal.returns-in-Ok-clause-steps
 returns-in-Ok-clause-steps g c = record {
   told = λ generating zero. c.commanded.ensures.spends.told (subst IsGenerating (sym c.command-command.ensures) generating) zero;
-  bounded = c.commanded.ensures.spends.bounded;
+  bounded = λ other. c.commanded.ensures.spends.bounded (λ strict. other (sym c.command-command.ensures ∙ strict));
+  strictly = c.commanded.ensures.spends.strictly;
 }
 
 pub returns-in-Err-clause-end : goal.returns-in-Err-clause-end
@@ -57,4 +58,4 @@ returns-in-Err-clause-asked g c =
     (λ words is. project_asks words before after before.asked (c.configured.ensures words is).asked)
 
 pub returns-in-Err-clause-steps : goal.returns-in-Err-clause-steps
-returns-in-Err-clause-steps g c = stop_spends (IsGenerating (command_ordered c.args.order)) c.in-Err.stop _ _ _ _ _ c.close.ensures.tells (search rules)
+returns-in-Err-clause-steps g c = order_spends (command_ordered c.args.order) _ _ _ _ _ (stop_spends (IsGenerating (command_ordered c.args.order)) c.in-Err.stop _ _ _ _ _ c.close.ensures.tells (search rules))

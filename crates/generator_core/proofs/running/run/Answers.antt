@@ -1,19 +1,26 @@
-use Rattle.std.proofs.Common.{rules, refl, subst}
+use Rattle.std.proofs.Common.{rules, ◌≤◌, ◌+◌, ℕ, refl, subst, arith}
 use Rattle.std.specs.Prelude.{map, string_bytes}
+use Rattle.tree_spec.specs.declared.LimitName.TheVariants.{Modules, Requests}
+use Rattle.tree_spec.specs.Limits.{limit_number}
 use Rattle.tree_spec.proofs.ToldStates.{if_some}
 use Rattle.config_spec.proofs.WordsJudged.{words_are_judged}
-use Rattle.config_spec.specs.Words.{IsSession, Measures}
+use Rattle.config_spec.specs.Words.{IsCommandOf, IsSession, Measures}
 use Rattle.config_spec.specs.declared.Command.TheVariants.{Why, Vendor}
 use Rattle.command_words.specs.Orders.{AsksWhyAt, IsOrder, IsWanted, VendorsAt, command_ordered}
 use Rattle.generator_spec.specs.Commands.{IsGenerating, SaysCounts}
 use Rattle.generator_spec.specs.Steps.{MeasureSpends}
 use Rattle.generator_core.proofs.Endings.{words_end}
 use Rattle.generator_core.proofs.Explainings.{why_command}
-use Rattle.generator_core.proofs.CopiesTold.{counts_generate, vendor_command}
+use Rattle.generator_spec.proofs.Outcomes.{counts_generate}
+use Rattle.generator_core.proofs.CopiesTold.{vendor_command}
 use Rattle.generator_core.proofs.HeldSessions.{unread_ends}
 use Rattle.generator_core.proofs.Measurings.{few_packages}
 use Rattle.generator_core.proofs.Runs.{command_is, words_not_done, asks_nothing_in_order}
 use Rattle.generator_core.proofs.running.run.Goals as goal
+
+-- no more steps than those are no more than with one a module more
+more_steps : (steps later : ℕ) → later ≤ steps + (limit_number Modules + limit_number Requests) → later ≤ steps + (limit_number Modules + limit_number Requests) + limit_number Modules
+more_steps steps later bounded = omega (arith, bounded)
 
 pub returns-in-Ok-Order-clause-ends : goal.returns-in-Ok-Order-clause-ends
 returns-in-Ok-Order-clause-ends g c =
@@ -27,7 +34,8 @@ returns-in-Ok-Order-clause-ends g c =
         steps = record {
           told = λ command is_too counts zero. c.ordered.ensures.steps.told (subst IsGenerating ((words_are_judged words).one_command command (command_ordered c.in-Ok-Order.order) is_too commanded) (counts_generate command counts)) zero;
           measured = λ number asks zero. absurd ((words_are_judged words).no_command number (command_ordered c.in-Ok-Order.order) asks commanded);
-          bounded = c.ordered.ensures.steps.bounded;
+          bounded = λ other. c.ordered.ensures.steps.bounded (λ same. other (subst (IsCommandOf words) same commanded));
+          strictly = c.ordered.ensures.steps.strictly;
           unspent = λ none no_measure. absurd (none _ commanded);
         };
       };
@@ -52,7 +60,8 @@ returns-in-Ok-Why-clause-ends g c =
         steps = record {
           told = λ command is_too counts zero. absurd (subst SaysCounts ((words_are_judged words).one_command command Why is_too commanded) counts);
           measured = λ number asks zero. absurd ((words_are_judged words).no_command number Why asks commanded);
-          bounded = c.explain.ensures.steps.bounded;
+          bounded = λ other. c.explain.ensures.steps.bounded;
+          strictly = more_steps _ _ c.explain.ensures.steps.bounded;
           unspent = λ none no_measure. absurd (none Why commanded);
         };
       };
@@ -83,7 +92,8 @@ returns-in-Ok-Vendor-clause-ends g c =
         steps = record {
           told = λ command is_too counts zero. absurd (subst SaysCounts ((words_are_judged words).one_command command Vendor is_too commanded) counts);
           measured = λ number asks zero. absurd ((words_are_judged words).no_command number Vendor asks commanded);
-          bounded = c.vendor.ensures.steps.bounded;
+          bounded = λ other. c.vendor.ensures.steps.bounded;
+          strictly = more_steps _ _ c.vendor.ensures.steps.bounded;
           unspent = λ none no_measure. absurd (none Vendor commanded);
         };
       };
@@ -112,7 +122,8 @@ returns-in-Ok-Measure-clause-ends g c =
         steps = record {
           told = λ command is generating zero. absurd ((words_are_judged words).no_command c.in-Ok-Measure.number command asks is);
           measured = λ number asks_too zero. subst (λ n. MeasureSpends n (g.O.Sink.state c.args.out.now) (g.O.Sink.state c.measure.new.out) c.args.steps.now c.measure.new.steps) ((words_are_judged words).one_measure c.in-Ok-Measure.number number asks asks_too) (c.measure.ensures.told zero);
-          bounded = c.measure.ensures.bounded;
+          bounded = λ other. c.measure.ensures.bounded;
+          strictly = more_steps _ _ c.measure.ensures.bounded;
           unspent = λ none no_measure. absurd (no_measure c.in-Ok-Measure.number asks);
         };
       };
@@ -146,7 +157,8 @@ returns-in-Err-clause-ends g c =
         steps = record {
           told = λ command is generating zero. absurd (words_not_done c.in-Err.fault _ _ _ c.misworded.ensures.tells zero);
           measured = λ number asks zero. absurd (words_not_done c.in-Err.fault _ _ _ c.misworded.ensures.tells zero);
-          bounded = search rules;
+          bounded = λ other. search rules;
+          strictly = search rules;
           unspent = λ none no_measure. refl;
         };
       };

@@ -6,7 +6,7 @@ use Rattle.generator_spec.specs.Asked.{own_file}
 use Rattle.generator_spec.specs.Commands.{IsGenerating}
 use Rattle.generator_core.specs.Preparing.{Prepares}
 use Rattle.generator_core.specs.Spending.{CommandSpends}
-use Rattle.generator_core.proofs.Endings.{stop_end, write_end, stop_spends, done_spends}
+use Rattle.generator_core.proofs.Endings.{stop_end, write_end, stop_spends, done_spends, order_spends}
 use Rattle.generator_core.proofs.Preparings.{counts, still_few}
 use Rattle.generator_core.proofs.running.write_map.Goals as goal
 
@@ -20,7 +20,7 @@ returns-in-Ok g c =
     record {
       end = λ words is_config. write_end words command c.args.config.now _ _ _ _ _ _ c.in-Ok.prepared (counts c.args.keeps kept) is_config (subst (λ r. Prepares command c.args.config.now (g.F.Folder.state c.args.folder.now) r (g.F.Folder.state c.prepare_map.new.folder)) c.in-Ok.is (c.prepare_map.ensures.prepares command kept)).ready c.finish.ensures;
       asked = still_few c.args.config.now (g.F.Folder.state c.args.folder.now).holds (own_file command c.args.config.now) _ (g.F.Folder.state c.prepare_map.new.folder) _ c.finish.ensures.asked (c.prepare_map.ensures.prepares command kept).asked;
-      spends = any_command command _ _ _ _ _ (done_spends c.in-Ok.prepared _ _ _ _ _ _ _ c.finish.ensures (rw c.in-Ok.is at c.prepare_map.ensures.steps));
+      spends = order_spends command _ _ _ _ _ (any_command command _ _ _ _ _ (done_spends c.in-Ok.prepared _ _ _ _ _ _ _ c.finish.ensures (rw c.in-Ok.is at c.prepare_map.ensures.steps)));
     }
 
 pub returns-in-Err : goal.returns-in-Err
@@ -28,5 +28,5 @@ returns-in-Err g c =
     λ command kept. record {
       end = λ words is_config. stop_end words command c.args.config.now _ _ _ _ _ is_config c.in-Err.stop (subst (λ r. Prepares command c.args.config.now (g.F.Folder.state c.args.folder.now) r (g.F.Folder.state c.prepare_map.new.folder)) c.in-Err.is (c.prepare_map.ensures.prepares command kept)).stopped c.close.ensures.tells c.close.ensures.later;
       asked = (c.prepare_map.ensures.prepares command kept).asked;
-      spends = stop_spends (IsGenerating command) c.in-Err.stop _ _ _ _ _ c.close.ensures.tells c.prepare_map.ensures.steps.bounded;
+      spends = order_spends command _ _ _ _ _ (stop_spends (IsGenerating command) c.in-Err.stop _ _ _ _ _ c.close.ensures.tells c.prepare_map.ensures.steps.bounded);
     }

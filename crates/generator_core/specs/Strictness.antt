@@ -1,0 +1,69 @@
+-- How a check comes to what it says of the modules.
+--     further_steps strictly           how many steps more the check takes, where it asks the grammar, at most
+--     IsSaidAt all place answer        this is said of the module at a place
+--     IsLineOf all place answer old new      the line of that module stands behind those that were there, if it has one
+--     IsStrictStop all stop            some module is nested too deep, or memory is wanting
+--     FindsAnswer all place result     the module's answer is found, or it is told why not
+--     PushesModule all place old new result      the line of the module at a place stands behind those that were there, if
+--                                      it has one, or it is told why not
+--     AreLined all old new             the lines of the modules stand behind those that were there
+--     PushesStrict all old new result  so they do, or it is told why not
+use Rattle.std.specs.Prelude.{◌≡◌, ◌++◌, ℕ, Bool, true, false, List, slice_get, Some, Result, IfOk, IfErr, OnOk}
+use Rattle.tree_spec.specs.declared.LimitName.TheVariants.{Modules}
+use Rattle.tree_spec.specs.Limits.{limit_number}
+use Rattle.grammar_spec.specs.declared.answer.Strict.{Strict}
+use Rattle.grammar_spec.specs.declared.answer.Strict.TheVariants.{TooDeep}
+use Rattle.trace_spec.specs.Checks.{Gathered}
+use Rattle.trace_spec.specs.Modules.{Module}
+use Rattle.trace_spec.specs.Questions.{Source}
+use Rattle.generator_spec.specs.Checking.{strict_line, strict_lines}
+use Rattle.generator_spec.specs.Strictness.{IsSaid, AreSaid, is_nested, IsNested}
+use Rattle.generator_spec.specs.declared.Refusal.TheVariants.{NestedTooDeep}
+use Rattle.generation.specs.declared.stop.Stop.{Stop}
+use Rattle.generation.specs.declared.stop.Stop.TheVariants.{Refused, Memory}
+
+abbrev pub further_steps : Bool → ℕ
+further_steps true = limit_number Modules
+further_steps false = 0
+
+abbrev pub IsSaidAt : Gathered → ℕ → Strict → Type 0
+IsSaidAt all place answer = (source : Source) → slice_get all.sources place ≡ Some source → IsSaid source.bytes answer
+
+abbrev pub IsLineOf : Gathered → ℕ → Strict → List (List ℕ) → List (List ℕ) → Type 0
+IsLineOf all place answer old new =
+    (m : Module) → slice_get all.modules place ≡ Some m → new ≡ old ++ strict_line (m.path ++ m.suffix) answer
+
+pub data IsStrictStop (all : Gathered) : Stop → Type 0 where
+  nested :
+      (place : ℕ) (source : Source) → slice_get all.sources place ≡ Some source → IsSaid source.bytes TooDeep
+      → IsStrictStop all (Refused NestedTooDeep)
+  memory : IsStrictStop all Memory
+
+-- what is said of the module at a place, which isn't nested too deep
+pub record FindsAnswer (all : Gathered) (place : ℕ) (result : Result Strict Stop) : Type 0 where
+  pub said : IfOk result (IsSaidAt all place)
+  pub shallow : IfOk result (λ answer. is_nested answer ≡ false)
+  pub stopped : IfErr result (IsStrictStop all)
+
+-- its line stands behind those that were there, if it has one
+pub record IsModuleLined (all : Gathered) (place : ℕ) (old new : List (List ℕ)) : Type 0 where
+  pub answer : Strict
+  pub said : IsSaidAt all place answer
+  pub shallow : is_nested answer ≡ false
+  pub line : IsLineOf all place answer old new
+
+pub record PushesModule (all : Gathered) (place : ℕ) (old new : List (List ℕ)) (result : Result (Unit {0}) Stop)
+    : Type 0 where
+  pub pushed : OnOk result (IsModuleLined all place old new)
+  pub stopped : IfErr result (IsStrictStop all)
+
+-- each module is said something of, and none is nested too deep
+pub record AreLined (all : Gathered) (old new : List (List ℕ)) : Type 0 where
+  pub answers : List Strict
+  pub said : AreSaid all.sources answers
+  pub none : IsNested answers → ⊥
+  pub lines : new ≡ old ++ strict_lines all.modules answers
+
+pub record PushesStrict (all : Gathered) (old new : List (List ℕ)) (result : Result (Unit {0}) Stop) : Type 0 where
+  pub pushed : OnOk result (AreLined all old new)
+  pub stopped : IfErr result (IsStrictStop all)
