@@ -1,9 +1,10 @@
 ghost use Rattle.std.specs.Prelude.{◌≡◌};
+ghost use Rattle.std.specs.Bool.{OnTrue};
 ghost use Rattle.module_spec.specs.Sorts.{kind_of, opens, closes, same_bracket, is_condition_word};
 ghost use Rattle.module_spec.specs.Sorts.{is_value_word, is_statement_word, word, is_dot, sort_before_value};
 ghost use Rattle.module_spec.specs.Sorts.{word_before_value, mark_before_value, mark_opens, mark_closes};
 ghost use Rattle.module_spec.specs.Sorts.{is_dot_mark, is_condition, is_for, is_await};
-ghost use Rattle.module_spec.specs.Tokens.{name_word};
+ghost use Rattle.es_lexer.specs.Open.{NoBracket};
 
 use module_spec::{Bracket, Kind, Mark, Sort, Word};
 
@@ -94,6 +95,41 @@ fn mark_closes(mark: Mark) -> Option<Bracket>
     }
 }
 
+/// Whether a token opens and closes nothing, as most do.
+pub fn is_no_bracket(sort: Sort) -> bool
+    ensures { OnTrue result (NoBracket sort) }
+{
+    match sort {
+        Sort::Name => true,
+        Sort::Private => true,
+        Sort::Number => true,
+        Sort::Text => true,
+        Sort::TemplateWhole => true,
+        Sort::TemplateHead => false,
+        Sort::TemplateMiddle => false,
+        Sort::TemplateTail => false,
+        Sort::Regex => true,
+        Sort::Punctuator(mark) => is_no_bracket_mark(mark),
+    }
+}
+
+fn is_no_bracket_mark(mark: Mark) -> bool
+    ensures { OnTrue result (NoBracket (Sort.Punctuator mark)) }
+{
+    match mark {
+        Mark::OpenRound => false,
+        Mark::OpenSquare => false,
+        Mark::OpenCurly => false,
+        Mark::CloseRound => false,
+        Mark::CloseSquare => false,
+        Mark::CloseCurly => false,
+        Mark::Dot => true,
+        Mark::Step => true,
+        Mark::Stop => true,
+        Mark::Operator => true,
+    }
+}
+
 pub fn same_bracket(one: Bracket, other: Bracket) -> bool
     ensures { result ≡ same_bracket one other }
 {
@@ -139,9 +175,9 @@ fn is_statement_word(text: &[u8]) -> bool
         || text == b"else".as_slice()
 }
 
-// What a name says of what stands behind it.
+/// What a name says of what stands behind it.
 #[tactic(auto, unfolding(module_spec::specs::Sorts::word))]
-fn word(text: &[u8]) -> Word
+pub fn word(text: &[u8]) -> Word
     ensures { result ≡ word text.now }
 {
     if is_condition_word(text) {
@@ -158,24 +194,6 @@ fn word(text: &[u8]) -> Word
         Word::Statement
     } else {
         Word::Other
-    }
-}
-
-/// What a token says as a word: a name alone says something.
-pub fn name_word(sort: Sort, text: &[u8]) -> Word
-    ensures { result ≡ name_word sort text.now }
-{
-    match sort {
-        Sort::Name => word(text),
-        Sort::Private => Word::Other,
-        Sort::Number => Word::Other,
-        Sort::Text => Word::Other,
-        Sort::TemplateWhole => Word::Other,
-        Sort::TemplateHead => Word::Other,
-        Sort::TemplateMiddle => Word::Other,
-        Sort::TemplateTail => Word::Other,
-        Sort::Regex => Word::Other,
-        Sort::Punctuator(_) => Word::Other,
     }
 }
 
