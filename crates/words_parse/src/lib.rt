@@ -23,12 +23,11 @@ ghost use Rattle.words_spec.specs.PlainWords.{Asked, Asks};
 
 use clap::Error;
 use clap::error::ErrorKind;
-use std::alloc::Global;
-use std::fmt::Write;
-
 pub use command::{Command, LinkValues};
 pub use matching::matches;
 pub use reader::read;
+use std::alloc::Global;
+use std::fmt::Write;
 
 /// Why words ask for nothing.
 #[derive(Debug, Drop)]
