@@ -107,7 +107,7 @@ one_more false question whole part rest e = e
 
 fresh_in_both : {Q : Type 0} (is : Q → Bool) (part rest : List Q)
     → length (filter is (part ++ rest)) ≡ length (filter is part) + length (filter is rest)
-fresh_in_both is [] rest = refl
+fresh_in_both is [] rest = omega arith
 fresh_in_both is (question ∷ part) rest =
     one_more (is question) question (filter is (part ++ rest)) (filter is part) (length (filter is rest))
     (fresh_in_both is part rest)
