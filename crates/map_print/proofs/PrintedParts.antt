@@ -1,5 +1,5 @@
--- Appending one piece after another.
-use Rattle.std.proofs.Common.{◌≡◌, ℕ, ◌+◌, zero, suc, List, [], ◌∷◌, ◌++◌, length, drop, ◌≤◌, refl, sym, ap, ◌∙◌, append_assoc, append-nil, arith}
+-- The parts of a map, appended one after another.
+use Rattle.std.proofs.Common.{◌≡◌, ℕ, ◌+◌, zero, suc, List, [], ◌∷◌, ◌++◌, length, drop, ◌≤◌, refl, sym, ap, ◌∙◌, arith}
 use Rattle.std.specs.Prelude.{◌≢◌, codes}
 use Rattle.std.proofs.Math.Numerals.{add-one}
 use Rattle.std.proofs.lemmas.List.{drop_all}
@@ -10,21 +10,8 @@ use Rattle.layout_spec.specs.PrintedMap.{with_part}
 use Rattle.scope_builder.specs.declared.keyed.Layout.{Layout}
 use Rattle.map_print.specs.PrintedLists.{members_by, mappings_value, pairs_members, scopes_members, layout_value}
 use Rattle.map_print.specs.declared.print.Values.TheVariants.{Addresses, Digests}
-use Rattle.map_print.specs.Appending.{Appends}
-
-pub piece : {old new : List ℕ} (bytes : List ℕ) → new ≡ old ++ bytes → Appends old new (λ rest. bytes ++ rest)
-piece {old} bytes e = record { whole = λ rest. ap (λ (xs : List ℕ). xs ++ rest) e ∙ append_assoc old bytes rest }
-
-pub next : {old middle new : List ℕ} {f g : List ℕ → List ℕ} → Appends old middle f → Appends middle new g → Appends old new (λ rest. f (g rest))
-next {g = g} a b = record { whole = λ rest. b.whole rest ∙ a.whole (g rest) }
-
--- appended to nothing, it is the whole
-pub from_nothing : {old new : List ℕ} {text : List ℕ → List ℕ} → old ≡ [] → Appends old new text → new ≡ text []
-from_nothing {new = new} {text = text} none a = sym (append-nil new) ∙ (a.whole [] ∙ ap (λ (xs : List ℕ). xs ++ text []) none)
-
--- the same bytes, written in another way
-pub as_text : {old new : List ℕ} {f : List ℕ → List ℕ} (g : List ℕ → List ℕ) → Appends old new f → ((rest : List ℕ) → f rest ≡ g rest) → Appends old new g
-as_text {old} g a e = record { whole = λ rest. a.whole rest ∙ ap (λ (xs : List ℕ). old ++ xs) (e rest) }
+use Rattle.ordered_json.proofs.Appends.{piece, next, as_text, Completes}
+use Rattle.ordered_json.specs.Appending.{Appends}
 
 margin_suc : (n : ℕ) (rest : List ℕ) → margin (suc n) rest ≡ margin n (32 ∷ 32 ∷ rest)
 margin_suc zero rest = refl
@@ -32,10 +19,6 @@ margin_suc (suc n) rest = ap (λ (xs : List ℕ). 32 ∷ 32 ∷ xs) (margin_suc 
 
 pub line_more : {old now new : List ℕ} (n : ℕ) → Appends old now (line n) → new ≡ now ++ 32 ∷ 32 ∷ [] → Appends old new (line (n + 1))
 line_more n a e = as_text (line (n + 1)) (next a (piece (32 ∷ 32 ∷ []) e)) (λ rest. ap (λ (xs : List ℕ). 10 ∷ xs) (sym (ap (λ k. margin k rest) (add-one n) ∙ margin_suc n rest)))
-
--- what is left to write after `now` completes the whole
-pub record Completes (old now : List ℕ) (all left : List ℕ → List ℕ) : Type 0 where
-  pub whole : (rest : List ℕ) → now ++ left rest ≡ old ++ all rest
 
 module _ {X : Type 0} (name : X → List ℕ) (value : X → Json) where
   pub all_members : {old now : List ℕ} {all : List ℕ → List ℕ} (n i : ℕ) (items : List X) → length items ≤ i → Completes old now all (printed_members n (members_by name value (drop i items))) → Appends old now all

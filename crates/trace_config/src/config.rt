@@ -22,7 +22,7 @@ pub struct Config {
 
 impl Model for Config {
     ghost use Rattle.trace_spec.specs.Modules as spec;
-    ghost use Rattle.trace_walk.specs.Configs.{IsConfigured};
+    ghost use Rattle.trace_config.specs.Configs.{IsConfigured};
 
     ghost Value = { spec.Config };
 
@@ -32,7 +32,7 @@ impl Model for Config {
 }
 
 impl Config {
-    ghost use Rattle.trace_walk.specs.Configs.{ArePartsOf, IsConfigured, with_entries};
+    ghost use Rattle.trace_config.specs.Configs.{ArePartsOf, IsConfigured, with_entries};
 
     /// The config of these, where the page isn't the root and the entries are distinct and not too many.
     pub fn new(base: Base, page: Path, conditions: Conditions, entries: Listed<Text>) -> Config

@@ -1,5 +1,5 @@
 use Rattle.std.proofs.Common.{rules}
-use Rattle.trace_walk.proofs.config.Config.into_parts.Goals as goal
+use Rattle.trace_config.proofs.config.Config.into_parts.Goals as goal
 
 pub returns-clause-parts : goal.returns-clause-parts
 returns-clause-parts c = record {
