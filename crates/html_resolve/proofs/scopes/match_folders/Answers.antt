@@ -1,4 +1,4 @@
-use Rattle.std.proofs.Common.{rules, sym, ◌∙◌, length, ◌≤◌, arith, Ok, None}
+use Rattle.std.proofs.Common.{rules, sym, ◌∙◌, length, arith, Ok, None}
 use Rattle.import_map_spec.specs.LookUps.{scope_addresses}
 use Rattle.html_resolve.proofs.OutcomeLemmas.{step_fails, step_some, step_none, fails_moved, answers_moved}
 use Rattle.html_resolve.proofs.WalkLemmas.{scopes_none, scopes_next, scopes_reach, scope_is, no_scope, none_scoped, whole_front, within_front}
