@@ -1,14 +1,13 @@
 -- Inputs that leave a session open, and what is replied to them.
-use Rattle.std.proofs.Common.{◌≡◌, ◌≤◌, ◌++◌, [], ℕ, List, length, Option, Some, None, refl, sym, ap, ◌∙◌, subst}
-use Rattle.std.proofs.lemmas.List.{append-nil, take_all}
-use Rattle.std.specs.Prelude.{◌+◌, take}
+use Rattle.std.proofs.Common.{◌≡◌, ◌≤◌, ◌++◌, [], ℕ, List, length, Option, Some, None, refl, sym, ◌∙◌, subst}
+use Rattle.std.proofs.lemmas.List.{take_all}
+use Rattle.std.specs.Prelude.{◌+◌}
 use Rattle.tree_spec.specs.Limits.{limit_number}
 use Rattle.tree_spec.specs.declared.LimitName.TheVariants.{Session}
 use Rattle.session_spec.specs.declared.Change.{Change}
 use Rattle.session_spec.specs.Conversations.{Turn, makes, holds, shows, stops, turn_at, map_reply}
 use Rattle.session_spec.specs.Laws.{OpenInputsWait, WaitingIsOpen}
 use Rattle.session_spec.specs.Openings.{opening_line}
-use Rattle.session_spec.specs.SessionLines.{Rest}
 use Rattle.session_spec.specs.SessionRuns as session
 use Rattle.session_spec.specs.SessionStates.{SessionState}
 use Rattle.session_spec.specs.SessionSteps.{MakesEdits}

@@ -184,8 +184,8 @@ pub data AreAccepted : SessionState → List (List Change) → List (List Change
       → IsLeft state edit next line → AreAccepted next made accepted later
       → AreAccepted state (edit ∷ made) accepted later
 
--- own: these of the edits were accepted, one after another; the tree and the entries are those behind all their changes,
--- and the map is the one that is generated for them
+-- own: these of the edits were accepted, one after another; the tree and the entries are those behind all their
+-- changes, and the map is the one that is generated for them
 pub record IsFreshAfter (first : SessionState) (made : List (List Change)) (later : SessionState) : Type 0 where
   pub edits : List (List Change)
   pub are_accepted : AreAccepted first made edits later

@@ -5,7 +5,7 @@
 --                                     and `memory`
 --     ShowsFaults before after source later out out_after result      which counts of faults show in the status
 --     SessionPromises before after source later out out_after result  all of this
-use Rattle.std.specs.Prelude.{◌≡◌, ◌≢◌, ◌≤◌, ◌⊎◌, ◌++◌, ℕ, List, Option, IfSome, option_map}
+use Rattle.std.specs.Prelude.{◌≡◌, ◌≢◌, ◌⊎◌, ◌++◌, ℕ, List, IfSome, option_map}
 use Rattle.tree_spec.specs.Counts.{Rose}
 use Rattle.tree_spec.specs.States.{FolderState, SourceState, SinkState}
 use Rattle.tree_spec.specs.Trees.{Tree}

@@ -9,7 +9,8 @@
 --                                     opened
 --     IsRefusalShaped status text     and of one that isn't
 --     IsSessionShaped taken status text       either is so, and nothing is taken for a session that isn't opened
---     IsFrontShaped taken text        the line of an opening and then any replies; or nothing is said, and nothing taken
+--     IsFrontShaped taken text        the line of an opening and then any replies; or nothing is said, and nothing is
+--                                     taken
 --     SessionSays before after source later taken status text      why a session ends with this status and this text
 --     SessionStops before after source later taken out out_after result      all of the text went out, or the sink
 --                                     failed and that ended the session
@@ -123,8 +124,8 @@ abbrev pub IsFrontShaped : List ℕ → List ℕ → Type 0
 IsFrontShaped taken text = IsOpenedText text ⊎ ((taken ≡ []) × (text ≡ []))
 
 -- own: the session says what is defined, and no fault was counted; or there is want of memory, or a fault that was
--- counted, behind the line of the opening and whole replies, or behind nothing. Where a take fails, no line in the bytes
--- that were taken ends the session, and each that stands whole there was answered
+-- counted, behind the line of the opening and whole replies, or behind nothing. Where a take fails, no line in the
+-- bytes that were taken ends the session, and each that stands whole there was answered
 pub data SessionSays (before after : FolderState) (source later : SourceState) (taken : List ℕ) (status : ℕ)
     (text : List ℕ) : Type 0 where
   outcome :
