@@ -1,15 +1,15 @@
 -- What comes of a trace over what is known of a folder, and of one for which nothing was; and what its map is.
-use Rattle.std.proofs.Common.{◌∙◌, ◌≡◌, ◌≢◌, ℕ, List, [], Bool, true, false, arith, append-nil, Option, Some, None, IfSome, Result, Ok, Err, refl, sym, ap, subst}
+use Rattle.std.proofs.Common.{◌∙◌, ◌≡◌, ◌≢◌, ℕ, List, [], Bool, true, false, append-nil, Option, Some, None, IfSome, Result, Ok, Err, refl, sym, ap, subst}
 use Rattle.std.specs.FinMap.{get}
 use Rattle.std.specs.List.{ends_with}
 use Rattle.std.specs.Prelude.{◌++◌, ⊤, All, Contains, MatchOption, nat_eq, codes}
 use Rattle.std.proofs.lemmas.Bool.{cond-false}
 use Rattle.std.proofs.lemmas.Option.{same_Some}
 use Rattle.std.proofs.lemmas.List.{append_cancel_left}
-use Rattle.std.proofs.lemmas.List.Elements.{All-weaker, All-nil}
+use Rattle.std.proofs.lemmas.List.Elements.{All-weaker}
 use Rattle.std.specs.Option.{option_or}
 use Rattle.tree_spec.specs.LookAskings.{Sights, footprint}
-use Rattle.tree_spec.specs.States.{FolderState, OnlyLooks}
+use Rattle.tree_spec.specs.States.{FolderState}
 use Rattle.tree_spec.specs.Trees.{Tree}
 use Rattle.tree_spec.specs.declared.LimitName.TheVariants.{Map, Choices}
 use Rattle.tree_spec.proofs.ToldStates.{if_some, looks_as}
@@ -223,7 +223,7 @@ module _ (config : Config) (all : Gathered) where
         no_look = λ e. absurd (cc);
       })
 
-  pub lacks : MapsTrace config all (Err Memory)
+  lacks : MapsTrace config all (Err Memory)
   lacks = record { map = tt; refused = tt; kind = tt; no_look = λ e. absurd (cc) }
 
   pub unserved : (stop : Stop) → IsUnserved config stop → MapsTrace config all (Err stop)

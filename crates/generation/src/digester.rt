@@ -16,11 +16,11 @@ pub trait Digester {
         ensures { IfOk result (λ text. text ≡ digest_text bytes.now) };
 }
 
-/// Computes each digest, and keeps none.
+/// Digests that are computed as they are asked for.
 #[derive(Drop)]
-pub struct NoDigests {}
+pub struct ComputedDigests {}
 
-impl Digester for NoDigests {
+impl Digester for ComputedDigests {
     ghost use Rattle.std.specs.Prelude.{⊤};
 
     ghost has = { λ digester place bytes. ⊤ };
@@ -30,7 +30,7 @@ impl Digester for NoDigests {
     }
 }
 
-/// Kept digests, one for each place.
+/// Digests that were kept, one for each place.
 #[derive(Drop)]
 pub struct KeptDigests<'a> {
     pub texts: &'a [Text],

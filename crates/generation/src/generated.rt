@@ -10,7 +10,7 @@ ghost use Rattle.generation.specs.Digesting.{HasEach};
 ghost use Rattle.generation.specs.Generating.{Generating, GeneratingOver, IsMapOf, HasLargeMap, generated_of};
 ghost use Rattle.generation.specs.Mapping.{MapsTrace};
 
-use crate::digester::{Digester, NoDigests};
+use crate::digester::{ComputedDigests, Digester};
 use crate::digests::digests;
 use crate::page::page_url;
 use crate::stop::{Stop, too_large, too_many_choices};
@@ -96,7 +96,7 @@ pub fn generate_traced<F: Folder, L: Ledger>(
 {
     match traced_over(alloc, folder, known, config, steps) {
         Err(stop) => Err(stop),
-        Ok(trace) => match map_of(alloc, config, &trace, &NoDigests {}) {
+        Ok(trace) => match map_of(alloc, config, &trace, &ComputedDigests {}) {
             Err(stop) => Err(stop),
             Ok(generated) => Ok((generated, trace)),
         },

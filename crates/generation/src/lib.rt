@@ -11,7 +11,7 @@ mod page;
 mod stop;
 mod tracing;
 
-pub use digester::{Digester, KeptDigests, NoDigests};
+pub use digester::{ComputedDigests, Digester, KeptDigests};
 pub use generated::{Generated, generate, generate_over, generate_traced, map_of};
 pub use stop::Stop;
 pub use tracing::traced;

@@ -21,3 +21,11 @@ returns-in-Ok-map_of-clause-generates g c =
     mapped c.args.config.now before after c.args.known.now c.traced_over.new.known c.in-Ok.trace.gathered _
     (subst (λ (r : Result Traced Stop). TracingOver c.args.config.now before c.args.known.now (gathered_of r) after c.traced_over.new.known) c.in-Ok.is c.traced_over.ensures.traces)
     (subst (λ (r : Result Generated Stop). MapsTrace c.args.config.now c.in-Ok.trace.gathered r) c.in-Ok-map_of.is c.map_of.ensures.maps)
+
+pub returns-in-Err-map_of-clause-generates : goal.returns-in-Err-map_of-clause-generates
+returns-in-Err-map_of-clause-generates g c =
+    let before = g.F.Folder.state c.args.folder.now in
+    let after = g.F.Folder.state c.traced_over.new.folder in
+    mapped c.args.config.now before after c.args.known.now c.traced_over.new.known c.in-Ok.trace.gathered _
+    (subst (λ (r : Result Traced Stop). TracingOver c.args.config.now before c.args.known.now (gathered_of r) after c.traced_over.new.known) c.in-Ok.is c.traced_over.ensures.traces)
+    (subst (λ (r : Result Generated Stop). MapsTrace c.args.config.now c.in-Ok.trace.gathered r) c.in-Err-map_of.is c.map_of.ensures.maps)

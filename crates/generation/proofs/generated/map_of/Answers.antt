@@ -1,5 +1,5 @@
 use Rattle.std.proofs.Common.{Err, ap, ◌∙◌}
-use Rattle.generation.proofs.Generatings.{is_map, too_wide, too_large, lacks, unserved}
+use Rattle.generation.proofs.Generatings.{is_map, too_wide, too_large, unserved}
 use Rattle.generation.proofs.generated.map_of.Goals as goal
 
 pub returns-in-Err-clause-maps : goal.returns-in-Err-clause-maps
@@ -17,6 +17,3 @@ pub returns-in-Err-MapTooLarge-clause-maps : goal.returns-in-Err-MapTooLarge-cla
 returns-in-Err-MapTooLarge-clause-maps g c =
     too_large c.args.config.now c.args.trace.now.gathered c.too_large.result c.too_large.ensures
     (c.map_at.ensures.too_large (c.in-Err-MapTooLarge.is ∙ ap Err c.in-Err-MapTooLarge.field-0-is))
-
-pub returns-in-Err-Memory-clause-maps : goal.returns-in-Err-Memory-clause-maps
-returns-in-Err-Memory-clause-maps g c = lacks c.args.config.now c.args.trace.now.gathered
