@@ -170,7 +170,7 @@ module _ (config : Config) (session : Session) where
       let tree_back = sym opened.tree_is in
       let config_back = sym opened.config_is in
       let same : state_on tree config state ≡ state = λ i. state_on (tree_back i) (config_back i) state in
-      let generated = subst (λ (t : Tree). IsGenerated t config state.map state.counts) opened.tree_is (subst (λ (c : Config). IsGenerated state.tree c state.map state.counts) opened.config_is opened.current) in
+      let generated = subst (λ (t : Tree). IsGenerated t config state.map state.counts) opened.tree_is (subst (λ (c : Config). IsGenerated state.tree c state.map state.counts) opened.config_is opened.is_state.current) in
       record {
         opens_at = subst (OpensAt tree) same (opens config state.map state.counts is generated);
         line = ap accepted_line opened.is_state.is_state.counts_are;
