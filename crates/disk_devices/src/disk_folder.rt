@@ -38,7 +38,6 @@ impl<'a, R> DiskFolder<'a, R> {
                 alloc,
                 root,
                 ways: HashMap::new(alloc),
-                gap: None,
                 writes: false,
             },
             look_faults: 0,
@@ -123,9 +122,6 @@ struct Disk<'a, R> {
     root: &'a str,
     /// Names below the root, and whether a folder stands there, and above it folders alone.
     ways: HashMap<String, bool>,
-    /// The last of these names at which no folder was found by a look: none stands below it either, so looks at many
-    /// paths below it, or at each folder above a path, don't go through all names between.
-    gap: Option<String>,
     /// Whether that was found by writes alone, with no look behind the first of them.
     writes: bool,
 }
@@ -158,7 +154,6 @@ impl<'a, R: Files> Disk<'a, R> {
             Standing::Absent => Ok(Look::Absent),
             Standing::Folder => {
                 self.keep(name, true)?;
-                self.gap = None;
                 Ok(Look::Folder)
             }
             Standing::File(size) => {
@@ -180,7 +175,6 @@ impl<'a, R: Files> Disk<'a, R> {
         if !self.writes {
             // The first write behind a look judges each folder on its way anew.
             self.ways.clear();
-            self.gap = None;
             self.writes = true;
         }
         self.make_folder(above)?;
@@ -254,9 +248,6 @@ impl<'a, R: Files> Disk<'a, R> {
         if name.len() <= self.root.len() {
             return Ok(true);
         }
-        if self.is_beyond(name) {
-            return Ok(false);
-        }
         if let Some(is_reached) = self.ways.get(name) {
             return Ok(*is_reached);
         }
@@ -266,21 +257,7 @@ impl<'a, R: Files> Disk<'a, R> {
         }
         let is_reached = matches!(self.standing(name)?, Standing::Folder);
         self.keep(String::from_str(self.alloc, name)?, is_reached)?;
-        if !is_reached {
-            self.gap = Some(String::from_str(self.alloc, name)?);
-        }
         Ok(is_reached)
-    }
-
-    /// Whether a name is that of the last gap, or below it.
-    fn is_beyond(&self, name: &str) -> bool {
-        match &self.gap {
-            None => false,
-            Some(gap) => match name.strip_prefix(gap.as_str()) {
-                None => false,
-                Some(rest) => rest.is_empty() || rest.starts_with('/'),
-            },
-        }
     }
 
     /// A new file in a folder, with its name.

@@ -95,7 +95,8 @@ impl Session {
     }
 
     /// Tries the changes of an edit one after another, and generates for what they leave, unless there are none. What
-    /// comes of it is pending then; it takes the place of what was. What is refused leaves the session as it was, with nothing pending.
+    /// comes of it is pending then; it takes the place of what was. What is refused leaves the session as it was, with
+    /// nothing pending.
     pub fn prepare<F: Folder, L: Ledger>(
         &mut self,
         alloc: Global,
