@@ -1,5 +1,5 @@
 -- How a session ends that is held on the project of a folder.
-use Rattle.std.proofs.Common.{◌≡◌, ◌≤◌, ◌⊎◌, ◌++◌, [], ◌∷◌, ℕ, List, Option, Some, None, IfSome, refl, sym, ap, ◌∙◌, subst, inl, inr, arith}
+use Rattle.std.proofs.Common.{◌≡◌, ◌≤◌, ◌++◌, [], ◌∷◌, ℕ, List, Option, Some, None, IfSome, ◌⊎◌, refl, sym, ap, ◌∙◌, subst, inl, inr, arith}
 use Rattle.std.proofs.lemmas.List.{append-nil}
 use Rattle.std.proofs.lemmas.List.Elements.{All-nil}
 use Rattle.tree_spec.specs.Counts.{Rose}
@@ -28,13 +28,12 @@ use Rattle.generator_spec.specs.Outcome.{RefusesRun, RefusesRun as refuses_run}
 use Rattle.generator_spec.specs.Statuses.{memory_status, read_fault_status}
 use Rattle.session_input.proofs.ReaderLemmas.{takes_none}
 use Rattle.session_run.specs.Sessions.{HoldsSession}
+use Rattle.session_run.proofs.SessionLemmas.{none_awaited, none_front}
 use Rattle.soundness.proofs.SessionMaps.{session_maps_serve}
 use Rattle.session_spec.specs.SessionRuns as runs
 use Rattle.session_spec.specs.SessionRuns.{RepliesTo as replies_to}
 use Rattle.session_spec.specs.Openings.{refresh_words, CanOpen}
 use Rattle.session_spec.specs.SessionLooks.{IsSessionLook, AsksFresh, AsksWithin}
-use Rattle.session_spec.specs.SessionSteps.{MakesEdits as makes}
-use Rattle.session_spec.specs.TakenInput.{IsAwaited}
 use Rattle.session_spec.specs.SessionRuns.{StatesServe, NoFault, RepliesTo, RepliesToAll, SessionComesTo, SessionSays, SessionStops, SessionEnds}
 use Rattle.session_spec.proofs.SessionSpending.{none_spent}
 use Rattle.generator_core.specs.Configuring.{StopsConfig, StopsConfig as stops_config}
@@ -73,10 +72,10 @@ module _ (before middle after : FolderState) (same_tree : middle.holds ≡ befor
 
   says_before : (status : ℕ) (text : List ℕ) → SessionSays middle after source later taken status text → SessionSays before after source later taken status text
   says_before status text (runs.outcome shaped none here whole) = runs.outcome shaped (no_fault none) (of_before (Comes status text) here) (of_before (ComesWhole status text) whole)
-  says_before status text (runs.memory front shape none told is_status is_text) = runs.memory front shape (no_fault none) (of_before (Replied front) told) is_status is_text
-  says_before status text (runs.look_fault front shape rose same told is_status is_text) =
-      runs.look_fault front shape (subst (λ (n : ℕ). Rose n after.look_faults) quiet rose) same (of_before (Replied front) told) is_status is_text
-  says_before status text (runs.take_fault front opened waits same rose told is_status is_text) = runs.take_fault front opened waits (same ∙ quiet) rose (of_before (AllReplied front) told) is_status is_text
+  says_before status text (runs.memory front shaped none told is_status is_text) = runs.memory front shaped (no_fault none) (of_before (Replied front) told) is_status is_text
+  says_before status text (runs.look_fault front shaped rose same told is_status is_text) =
+      runs.look_fault front shaped (subst (λ (n : ℕ). Rose n after.look_faults) quiet rose) same (of_before (Replied front) told) is_status is_text
+  says_before status text (runs.take_fault front opened left_open same rose told is_status is_text) = runs.take_fault front opened left_open (same ∙ quiet) rose (of_before (AllReplied front) told) is_status is_text
 
   stops_before : (out gone : SinkState) (result : ℕ) → SessionStops middle after source later taken out gone result → SessionStops before after source later taken out gone result
   stops_before out gone result (runs.said status text says ends) = runs.said status text (says_before status text says) ends
@@ -118,15 +117,6 @@ ends_before before middle after source later out gone result spent spent_after l
 nothing_fresh : (holds : Option Tree) (after : FolderState) (old : List (List ℕ)) → after.asked ≡ Some old → AsksFresh holds [] old after
 nothing_fresh holds after old is = record { more = []; asked = is ∙ ap Some (sym (append-nil old)); once = distinct_none; among = if_all holds (λ tree. All-nil (IsSessionLook tree [])) }
 
-nothing_awaited : IsAwaited []
-nothing_awaited = record {
-  front = [];
-  last = [];
-  whole = refl;
-  short = omega arith;
-  left_open = record { few = omega arith; edits = 0; held = None; behind = []; made = makes.begun; waits = refl };
-}
-
 module _ (before after : FolderState) (source : SourceState) (out gone : SinkState) (result spent : ℕ) where
   abbrev StopsAtOnce : Type 0
   StopsAtOnce = SessionStops before after source source [] out gone result
@@ -143,7 +133,7 @@ module _ (before after : FolderState) (source : SourceState) (out gone : SinkSta
     taken = [];
     takes = takes_none source;
     few = omega arith;
-    awaited = nothing_awaited;
+    awaited = none_awaited;
     opened = if_all before.holds (λ tree. inl refl);
     asked = if_some before.asked (λ old is. record { first = is.first; is_first = is.is_own; then = nothing_fresh before.holds after (old ++ is.first) is.asked }) own;
     steps = none_spent [] spent;
@@ -152,7 +142,7 @@ module _ (before after : FolderState) (source : SourceState) (out gone : SinkSta
   }
 
   memory_at_once : after.look_faults ≡ before.look_faults → Ends memory_status memory_line out gone result → StopsAtOnce
-  memory_at_once quiet told = runs.said memory_status memory_line (runs.memory [] (inr (refl, refl)) (quiet, refl) nothing_said refl refl) told
+  memory_at_once quiet told = runs.said memory_status memory_line (runs.memory [] none_front (quiet, refl) nothing_said refl refl) told
 
   refused_at_once : (why : Refusal) → CanRefuse refresh_words why → after.look_faults ≡ before.look_faults → IfSome before.holds (λ tree. RefusesRun refresh_words tree why) → TellsRefusal why out gone result → StopsAtOnce
   refused_at_once why can quiet refuses (inl told) =
@@ -170,7 +160,7 @@ module _ (before after : FolderState) (source : SourceState) (out gone : SinkSta
       (refused_at_once (Configured fault) (can_refuse.by_project fault can) (looks.quiet (λ e. e)) (if_some before.holds (λ tree because. refuses_run.by_project fault because) refuses) (subst (λ (s : Stop). TellsStop s out gone result) same told))
   stopped_ends stop (stops_config.read_fault same looks) own told later =
       unopened_ends looks later own
-      (runs.said read_fault_status read_fault_line (runs.look_fault [] (inr (refl, refl)) (looks.cause same) refl nothing_said refl refl) (subst (λ (s : Stop). TellsStop s out gone result) same told))
+      (runs.said read_fault_status read_fault_line (runs.look_fault [] none_front (looks.cause same) refl nothing_said refl refl) (subst (λ (s : Stop). TellsStop s out gone result) same told))
   stopped_ends stop (stops_config.memory same looks) own told later =
       unopened_ends looks later own (memory_at_once (looks.quiet (λ e. e)) (subst (λ (s : Stop). TellsStop s out gone result) same told))
 

@@ -98,7 +98,7 @@ module _ {X : Type 0} where
 
   -- ---- what is looked up by halves
 
-  found_none : (q : List ℕ) (xs : List (List ℕ × X)) → ((k : ℕ) (d : List ℕ × X) → k < length xs → same_key q (slice_index_or xs k d).0 ≡ false) → found q xs ≡ None
+  pub found_none : (q : List ℕ) (xs : List (List ℕ × X)) → ((k : ℕ) (d : List ℕ × X) → k < length xs → same_key q (slice_index_or xs k d).0 ≡ false) → found q xs ≡ None
   found_none q [] f = refl
   found_none q (e ∷ es) f = cond-false _ _ _ (f 0 e (omega arith)) ∙ found_none q es (λ k d l. f (suc k) d (omega arith))
 

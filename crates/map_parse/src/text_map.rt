@@ -1,9 +1,12 @@
-ghost use Rattle.std.specs.Prelude.{◌≡◌, IfOk, OnOk, option_copied};
+ghost use Rattle.std.specs.Prelude.{◌≡◌, ◌<◌, ◌≤◌, ℕ, length, take, IfOk, OnOk, None, option_copied};
 ghost use Rattle.std.specs.FinMap.{get, insert, empty};
 
 use shared_types::{Memory, Text};
 use std::alloc::Global;
 use std::marker::Model;
+
+/// How many bytes are compared at once.
+const BLOCK: usize = 64;
 
 /// A map from texts. It is one sorted list, so that an entry takes no memory beside its key and its value, and a `&str`
 /// is looked up by halves.
@@ -49,6 +52,57 @@ impl<V> TextMap<V> {
             }
         }
     }
+
+    /// How far keys go with a text: of its fronts that are longer, none is a key. What they have in common with the
+    /// greatest key that isn't above the text is that far.
+    pub fn reach(&self, text: &str) -> usize
+        ensures within { result ≤ length text.now }
+        ensures none { (n : ℕ) → result < n → n ≤ length text.now → get self.now (take n text.now) ≡ None }
+    {
+        let entries = self.entries.as_slice();
+        let behind = entries.partition_point(|entry| entry.0.as_str() <= text);
+        if behind == 0 {
+            return 0;
+        }
+        match entries.get(behind - 1) {
+            None => text.len(),
+            Some(entry) => common_front(text.as_bytes(), entry.0.as_str().as_bytes()),
+        }
+    }
+}
+
+// How many bytes two texts begin with alike.
+fn common_front(one: &[u8], other: &[u8]) -> usize
+    ensures within { result ≤ length one.now }
+    ensures longest { (n : ℕ) → n ≤ length one.now → take n other.now ≡ take n one.now → n ≤ result }
+{
+    for at in common_blocks(one, other)..one.len() {
+        match other.get(at) {
+            None => return at,
+            Some(byte) => {
+                if *byte != one[at] {
+                    return at;
+                }
+            }
+        }
+    }
+    one.len()
+}
+
+// How many bytes are in the blocks that two texts begin with alike.
+fn common_blocks(one: &[u8], other: &[u8]) -> usize {
+    let mut left = one;
+    let mut right = other;
+    while left.len() >= BLOCK && right.len() >= BLOCK {
+        let (block, more) = left.split_at(BLOCK);
+        let (beside, behind) = right.split_at(BLOCK);
+        if block != beside {
+            break;
+        }
+        left = more;
+        right = behind;
+    }
+    one.len() - left.len()
 }
 
 /// The entries of a map as they are put into it: a later one takes the place of an earlier one with its key.
