@@ -49,8 +49,8 @@ fn match_key(alloc: Global, addresses: &Addresses, text: &str) -> Result<Option<
     }
 }
 
-// The keys that are fronts of the specifier, from the longest to the shortest. Fronts that are longer than what keys have
-// in common with the specifier are passed over.
+// The keys that are fronts of the specifier, from the longest to the shortest. Fronts that are longer than what keys
+// have in common with the specifier are passed over.
 #[tactic(auto, using(crate::proofs::OutcomeLemmas::outcomes))]
 fn match_prefixes(
     alloc: Global,

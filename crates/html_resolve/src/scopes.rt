@@ -44,8 +44,11 @@ fn match_folders(
         (length referrer.now)) }
 {
     let mut limit = map.scope_reach(referrer);
+    let mut near = 0;
     while let Some(front) = next_front(referrer, limit) {
-        match map.scope(front.text) {
+        let (scope, place) = map.scope_near(front.text, near);
+        near = place.saturating_sub(1);
+        match scope {
             None => limit = map.scope_reach(front.before),
             Some(addresses) => {
                 match match_imports(alloc, addresses, text, prefixes) {

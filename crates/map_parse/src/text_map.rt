@@ -1,5 +1,6 @@
-ghost use Rattle.std.specs.Prelude.{◌≡◌, ◌<◌, ◌≤◌, ℕ, length, take, IfOk, OnOk, None, option_copied};
+ghost use Rattle.std.specs.Prelude.{◌≡◌, ◌<◌, ◌≤◌, ℕ, length, take, IfOk, OnOk, None, option_copied, true};
 ghost use Rattle.std.specs.FinMap.{get, insert, empty};
+ghost use Rattle.map_parse.specs.TextMaps.{IsAscending, IsPlace};
 
 use shared_types::{Memory, Text};
 use std::alloc::Global;
@@ -39,15 +40,23 @@ impl<V> TextMap<V> {
     pub fn get(&self, key: &str) -> Option<&V>
         ensures { option_copied result ≡ get self.now key.now }
     {
+        self.get_near(key, 0).0
+    }
+
+    /// The same with the place of the key among all keys, as they ascend. Where that is the place that is given, it is
+    /// found at once.
+    pub fn get_near(&self, key: &str, near: usize) -> (Option<&V>, usize)
+        ensures { option_copied result.0 ≡ get self.now key.now }
+    {
         let entries = self.entries.as_slice();
-        let at = entries.partition_point(|entry| entry.0.as_str() < key);
+        let at = place_near(entries, key, near);
         match entries.get(at) {
-            None => None,
+            None => (None, at),
             Some(entry) => {
                 if entry.0.as_str() == key {
-                    Some(&entry.1)
+                    (Some(&entry.1), at)
                 } else {
-                    None
+                    (None, at)
                 }
             }
         }
@@ -68,6 +77,39 @@ impl<V> TextMap<V> {
             None => text.len(),
             Some(entry) => common_front(text.as_bytes(), entry.0.as_str().as_bytes()),
         }
+    }
+}
+
+// The place of the first key that isn't below a text.
+fn place_near<V>(entries: &[(Text, V)], text: &str, near: usize) -> usize
+    requires { IsAscending entries.now }
+    ensures { IsPlace text.now entries.now result }
+{
+    if is_place(entries, text, near) {
+        return near;
+    }
+    entries.partition_point(|entry| entry.0.as_str() < text)
+}
+
+// Whether a key that isn't below the text stands there, and behind one that is.
+fn is_place<V>(entries: &[(Text, V)], text: &str, at: usize) -> bool
+    requires { IsAscending entries.now }
+    ensures { result ≡ true → IsPlace text.now entries.now at }
+{
+    match entries.get(at) {
+        None => return false,
+        Some(entry) => {
+            if entry.0.as_str() < text {
+                return false;
+            }
+        }
+    }
+    if at == 0 {
+        return true;
+    }
+    match entries.get(at - 1) {
+        None => false,
+        Some(entry) => entry.0.as_str() < text,
     }
 }
 

@@ -1,5 +1,5 @@
 -- How a session ends, by how it is opened and what is replied.
-use Rattle.std.proofs.Common.{◌≡◌, ◌≤◌, ◌++◌, [], ℕ, List, length, true, false, Option, Some, None, Ok, Err, refl, sym, ap, ◌∙◌, subst, inl, inr, arith}
+use Rattle.std.proofs.Common.{◌≡◌, ◌≤◌, ◌++◌, [], ℕ, List, true, false, Option, Some, None, Ok, Err, refl, sym, ap, ◌∙◌, subst, inl, inr, arith}
 use Rattle.std.proofs.lemmas.Bool.{false≢true}
 use Rattle.std.proofs.lemmas.List.{append-nil, append_assoc, append_cancel_left}
 use Rattle.std.proofs.lemmas.List.Elements.{All-append, All-weaker}
@@ -37,7 +37,7 @@ use Rattle.session_spec.specs.SessionStates.{SessionState, IsGenerated}
 use Rattle.session_spec.specs.TakenInput.{IsAwaited}
 use Rattle.session_spec.specs.SessionSteps.{most_steps, SpendsFor, SessionSpends}
 use Rattle.session_spec.proofs.SessionSpending.{spends_nothing}
-use Rattle.session_spec.specs.Talks.{Standing, begun, Talks, still}
+use Rattle.session_spec.specs.Talks.{begun, still}
 use Rattle.edit_session.specs.NewLooks.{AsksKept}
 use Rattle.edit_session.specs.Sessions.{IsOpened, OpensSession}
 use Rattle.edit_session.specs.SessionTrees.{shown_counts}
@@ -170,7 +170,7 @@ module _ (config : Config) (session : Session) where
       let tree_back = sym opened.tree_is in
       let config_back = sym opened.config_is in
       let same : state_on tree config state ≡ state = λ i. state_on (tree_back i) (config_back i) state in
-      let generated = subst (λ (t : Tree). IsGenerated t config state.map state.counts) opened.tree_is (subst (λ (c : Config). IsGenerated state.tree c state.map state.counts) opened.config_is opened.current) in
+      let generated = subst (λ (t : Tree). IsGenerated t config state.map state.counts) opened.tree_is (subst (λ (c : Config). IsGenerated state.tree c state.map state.counts) opened.config_is opened.is_state.current) in
       record {
         opens_at = subst (OpensAt tree) same (opens config state.map state.counts is generated);
         line = ap accepted_line opened.is_state.is_state.counts_are;

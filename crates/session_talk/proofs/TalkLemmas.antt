@@ -186,14 +186,14 @@ module _ (state : SessionState) (taken text : List ℕ) (number : ℕ) (order : 
 -- ---- a line is read
 
 -- where no line is whole in what waits
-pub open_with : (taken more unread : List ℕ) (edits : ℕ) (held : Option (List Change)) → MakesEdits taken edits held unread → length (taken ++ more) ≤ limit_number Session → read_line (unread ++ more) ≡ unfinished
+pub open_with : (taken more unread : List ℕ) (count : ℕ) (held : Option (List Change)) → MakesEdits taken count held unread → length (taken ++ more) ≤ limit_number Session → read_line (unread ++ more) ≡ unfinished
     → LeavesOpen (taken ++ more)
-open_with taken more unread edits held made few needed = record {
+open_with taken more unread count held made few needed = record {
   few = few;
-  edits = edits;
+  edits = count;
   held = held;
   behind = unread ++ more;
-  made = edits_on taken more edits held unread made;
+  made = edits_on taken more count held unread made;
   waits = ap (turn held) needed;
 }
 
@@ -225,11 +225,11 @@ module _ (state : SessionState) (front text more : List ℕ) (now : Now) (stands
     input = unread;
   }
 
-pub awaited_with : (taken more unread : List ℕ) (edits : ℕ) (held : Option (List Change)) → MakesEdits taken edits held unread → length taken + length more ≤ limit_number Session + 1 → IsNeeded unread more
+pub awaited_with : (taken more unread : List ℕ) (count : ℕ) (held : Option (List Change)) → MakesEdits taken count held unread → length taken + length more ≤ limit_number Session + 1 → IsNeeded unread more
     → IsAwaited taken → IsAwaited (taken ++ more)
-awaited_with taken more unread edits held made most (inl none) awaited =
+awaited_with taken more unread count held made most (inl none) awaited =
     subst (λ (bytes : List ℕ). IsAwaited bytes) (sym (ap (λ (m : List ℕ). taken ++ m) none ∙ append-nil taken)) awaited
-awaited_with taken more unread edits held made most (inr last) awaited =
+awaited_with taken more unread count held made most (inr last) awaited =
     let long = ap length last.whole ∙ length-append last.front last.last in
     let longer = length-append taken last.front in
     let some = last.some in
@@ -238,7 +238,7 @@ awaited_with taken more unread edits held made most (inr last) awaited =
       last = last.last;
       whole = ap (λ (m : List ℕ). taken ++ m) last.whole ∙ sym (append_assoc taken last.front last.last);
       short = last.short;
-      left_open = open_with taken last.front unread edits held made (omega (arith, most, long, longer, some)) last.needed;
+      left_open = open_with taken last.front unread count held made (omega (arith, most, long, longer, some)) last.needed;
     }
 
 -- ---- the beginning

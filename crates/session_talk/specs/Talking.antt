@@ -21,7 +21,7 @@
 --     Makes before edit out after out_after result   an edit is made and replied to, or something failed
 --     ShowsMap editor out after result               the map is the reply
 --     Turns first editor waiting held source out result      behind a turn it goes on, or the session ends
-use Rattle.std.specs.Prelude.{◌≡◌, ◌≤◌, ◌⊎◌, ◌+◌, ◌*◌, ◌++◌, [], ℕ, List, length, take}
+use Rattle.std.specs.Prelude.{◌≡◌, ◌≤◌, ◌⊎◌, ◌+◌, ◌*◌, ◌++◌, ℕ, List, length, take}
 use Rattle.std.specs.Prelude.{Option, Some, None, IfSome, option_map}
 use Rattle.tree_spec.specs.Counts.{Rose}
 use Rattle.tree_spec.specs.Limits.{limit_number}
