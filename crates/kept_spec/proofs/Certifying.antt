@@ -3,8 +3,7 @@ use Rattle.std.proofs.Common.{◌≡◌, ℕ, List, [], ◌∷◌, refl, sym, ap
 use Rattle.std.specs.Prelude.{All}
 use Rattle.std.proofs.lemmas.List.Elements.{All-nil, All-cons, All-head, All-tail}
 use Rattle.asking_spec.specs.Askings.{outcome}
-use Rattle.asking_spec.specs.Evaluation.{ends, evaluated}
-use Rattle.asking_spec.specs.Laws.{AgreesOn}
+use Rattle.asking_spec.specs.Evaluation.{evaluated}
 use Rattle.tree_spec.proofs.Footprints.{same_by_footprint}
 use Rattle.tree_spec.proofs.LimitedLooks.{ends_counted}
 use Rattle.tree_spec.specs.LookAskings.{Sights, LookAsking, footprint}
@@ -14,11 +13,11 @@ use Rattle.kept_spec.specs.Laws.{OutcomeIsCertified, EndIsCertified, CertifiedIs
 use Rattle.kept_spec.specs.Replays.{replayed}
 use Rattle.kept_spec.proofs.Replaying.{replays_footprint}
 
-abbrev Shows : Sights → LookSeen → Type 0
+abbrev pub Shows : Sights → LookSeen → Type 0
 Shows sights look = sights look.path ≡ look.found
 
 -- two that show the same looks agree at their paths
-agree : (one other : Sights) (looks : List LookSeen) → AreSeen one looks → AreSeen other looks
+pub agree : (one other : Sights) (looks : List LookSeen) → AreSeen one looks → AreSeen other looks
     → All (λ path. one path ≡ other path) (paths_of looks)
 agree one other [] here there = All-nil (λ path. one path ≡ other path)
 agree one other (look ∷ more) here there =

@@ -1,3 +1,4 @@
 pub mod Replaying
 pub mod Certifying
+pub mod FrontLooks
 pub mod examples

@@ -8,7 +8,7 @@ use Rattle.std.proofs.lemmas.Slice.Eq.{bytes_eq-Decides}
 use Rattle.asking_spec.specs.Askings.{answered, outcome}
 use Rattle.asking_spec.specs.Evaluation.{ends, stopped, then_ended}
 use Rattle.asking_spec.proofs.EvaluationLemmas.{evaluated_then}
-use Rattle.tree_spec.specs.LookAskings.{Sights, LookAsking, look_at_each, looks, is_seen, noted, footprint}
+use Rattle.tree_spec.specs.LookAskings.{Sights, look_at_each, looks, is_seen, noted, footprint}
 use Rattle.tree_spec.specs.LookLimits.{LookLimits, Trail, begun, size_at, seen_again, seen_first, counted, told, limited}
 use Rattle.tree_spec.proofs.FootprintSets.{seen_noted}
 use Rattle.tree_spec.proofs.LimitedLooks.{LookEnd, with_value, visited, limited_is, counted_one}
@@ -19,7 +19,7 @@ use Rattle.kept_spec.specs.Replays.{ReplaysFootprint}
 
 -- ---- the first looks among these, behind others
 
-abbrev first_looks : List (List ℕ) → List (List ℕ) → List (List ℕ)
+abbrev pub first_looks : List (List ℕ) → List (List ℕ) → List (List ℕ)
 first_looks seen [] = []
 first_looks seen (path ∷ more) =
     if is_seen path seen then first_looks seen more else path ∷ first_looks (seen ++ path ∷ []) more
@@ -33,7 +33,7 @@ noted_by seen path more true again first = again
 noted_by seen path more false again first =
     first ∙ append_assoc seen (path ∷ []) (first_looks (seen ++ path ∷ []) more)
 
-noted_first : (seen paths : List (List ℕ)) → noted seen paths ≡ seen ++ first_looks seen paths
+pub noted_first : (seen paths : List (List ℕ)) → noted seen paths ≡ seen ++ first_looks seen paths
 noted_first seen [] = sym (append-nil seen)
 noted_first seen (path ∷ more) =
     noted_by seen path more (is_seen path seen) (noted_first seen more) (noted_first (seen ++ path ∷ []) more)
@@ -67,10 +67,10 @@ seen_behind P path other seen before here held =
 -- ---- a path at which the question has looked
 
 module _ (limits : LookLimits) (sights : Sights) where
-  record IsLookedAt (trail : Trail) (path : List ℕ) : Type 0 where
-    counted_so : is_seen path trail.paths ≡ true
-    small : nat_lt limits.file (size_at (sights path)) ≡ false
-    asked : is_seen path trail.question ≡ true
+  pub record IsLookedAt (trail : Trail) (path : List ℕ) : Type 0 where
+    pub counted_so : is_seen path trail.paths ≡ true
+    pub small : nat_lt limits.file (size_at (sights path)) ≡ false
+    pub asked : is_seen path trail.question ≡ true
 
   -- is looked at again without being counted
   counts_again : (trail : Trail) (path : List ℕ) → IsLookedAt trail path
@@ -97,10 +97,10 @@ module _ (limits : LookLimits) (sights : Sights) where
       small_by trail path after (is_seen path trail.paths) (not (nat_lt (length trail.paths) limits.looks))
       (nat_lt limits.file (size_at (sights path))) (nat_lt limits.bytes (trail.size + size_at (sights path))) c
 
-  abbrev AreLookedAt : Trail → List (List ℕ) → Type 0
+  abbrev pub AreLookedAt : Trail → List (List ℕ) → Type 0
   AreLookedAt trail seen = (path : List ℕ) → is_seen path seen ≡ true → IsLookedAt trail path
 
-  one_more : (before after : Trail) (path : List ℕ) (seen : List (List ℕ)) → AreLookedAt before seen
+  pub one_more : (before after : Trail) (path : List ℕ) (seen : List (List ℕ)) → AreLookedAt before seen
       → counted limits before path (sights path) ≡ Ok after → AreLookedAt after (seen ++ path ∷ [])
   one_more before after path seen all c = λ other.
       let counts = counted_one limits sights before path after c in
@@ -144,14 +144,14 @@ module _ (limits : LookLimits) (sights : Sights) where
       (λ found after. visited limits sights after (first_looks (seen ++ path ∷ []) more)) refl
       (λ after c. first after (one_more trail after path seen all c))
 
-  visited_first : (trail : Trail) (seen paths : List (List ℕ)) → AreLookedAt trail seen
+  pub visited_first : (trail : Trail) (seen paths : List (List ℕ)) → AreLookedAt trail seen
       → visited limits sights trail paths ≡ visited limits sights trail (first_looks seen paths)
   visited_first trail seen [] all = refl
   visited_first trail seen (path ∷ more) all =
       visited_by trail seen path more (is_seen path seen) refl all (visited_first trail seen more all)
       (λ after first. visited_first after (seen ++ path ∷ []) more first)
 
-  visited_noted : (trail : Trail) (paths : List (List ℕ))
+  pub visited_noted : (trail : Trail) (paths : List (List ℕ))
       → visited limits sights trail paths ≡ visited limits sights trail (noted [] paths)
   visited_noted trail paths =
       visited_first trail [] paths (λ path held. absurd (cc))

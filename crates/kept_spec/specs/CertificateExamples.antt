@@ -4,7 +4,7 @@
 --     decided                    what certifies the answer
 --     CertificateExamples        the examples
 use Rattle.std.specs.Prelude.{◌≡◌, [], ◌∷◌, ℕ, List, codes, replicate, Option, Some, None}
-use Rattle.asking_spec.specs.Askings.{answered, ask, outcome}
+use Rattle.asking_spec.specs.Askings.{answered, ask}
 use Rattle.asking_spec.specs.Evaluation.{ends, stopped, evaluated}
 use Rattle.tree_spec.specs.LookAskings.{Sights, LookAsking, footprint}
 use Rattle.tree_spec.specs.LookExamples.{few, stands, trail}

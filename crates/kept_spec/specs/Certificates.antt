@@ -3,6 +3,7 @@
 --     paths_of looks                         their paths
 --     looks_seen sights paths                looks at these paths, with what stands there
 --     AreSeen sights looks                   what was seen stands at each of these paths
+--     IsShown looks                          something shows these looks
 --     IsAnswered sights asking value looks   where this stands, the asking comes to this value, and its footprint is the
 --                                            paths of these looks
 --     IsCertified asking value looks         so it is wherever what was seen stands at these paths
@@ -23,6 +24,9 @@ looks_seen sights paths = map (λ (path : List ℕ). record { path = path; found
 
 abbrev pub AreSeen : Sights → List LookSeen → Type 0
 AreSeen sights looks = All (λ look. sights look.path ≡ look.found) looks
+
+abbrev pub IsShown : List LookSeen → Type 0
+IsShown looks = (sights : Sights) × AreSeen sights looks
 
 pub record IsAnswered {X : Type 0} (sights : Sights) (asking : LookAsking X) (value : X)
     (looks : List LookSeen) : Type 0 where

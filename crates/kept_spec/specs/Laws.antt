@@ -1,12 +1,13 @@
 -- The laws of certificates. Each is the contract of a function of this crate.
-use Rattle.std.specs.Prelude.{◌≡◌, ◌↔◌, ℕ, List}
+use Rattle.std.specs.Prelude.{◌≡◌, ◌↔◌, ◌++◌, [], ◌∷◌, ℕ, List}
 use Rattle.asking_spec.specs.Askings.{outcome}
-use Rattle.asking_spec.specs.Evaluation.{ends, evaluated}
+use Rattle.asking_spec.specs.Evaluation.{ends, stopped, evaluated}
 use Rattle.asking_spec.specs.Laws.{AgreesOn}
-use Rattle.tree_spec.specs.LookAskings.{Sights, LookAsking, footprint}
+use Rattle.tree_spec.specs.LookAskings.{Sights, LookAsking, look_at_each, footprint}
 use Rattle.tree_spec.specs.LookLimits.{LookLimits, Trail, begun, limited}
-use Rattle.kept_spec.specs.Certificates.{LookSeen, paths_of, looks_seen, AreSeen, IsCertified}
-use Rattle.kept_spec.specs.Replays.{replayed}
+use Rattle.tree_spec.specs.declared.LimitName.{LimitName}
+use Rattle.kept_spec.specs.Certificates.{LookSeen, paths_of, looks_seen, AreSeen, IsShown, IsCertified}
+use Rattle.kept_spec.specs.Replays.{replayed, IsFront}
 
 -- whatever stands where: the looks of the footprint certify what the asking comes to
 abbrev pub OutcomeIsCertified : Type 0 → Type 0
@@ -41,3 +42,35 @@ abbrev pub SeenIfAgreed : Type 0
 SeenIfAgreed =
     (before after : Sights) (paths : List (List ℕ))
     → AreSeen after (looks_seen before paths) ↔ AgreesOn before after paths
+
+-- ---- looks at a part of the paths
+
+-- where the first of the looks see the same, the asking looks at their paths and then at the next one's
+abbrev pub FrontIsLooked : Type 0 → Type 0
+FrontIsLooked X =
+    (sights : Sights) (asking : LookAsking X) (value : X) (looks same rest : List LookSeen) (next : LookSeen)
+    → IsCertified asking value looks → IsShown looks → looks ≡ same ++ next ∷ rest → AreSeen sights same
+    → IsFront (paths_of same ++ next.path ∷ []) (footprint sights asking)
+
+-- an asking ends as it does where its first looks went before it
+abbrev pub FrontGoesBefore : Type 0 → Type 0
+FrontGoesBefore X =
+    (limits : LookLimits) (sights : Sights) (trail after : Trail) (asking : LookAsking X) (front : List (List ℕ))
+    → IsFront front (footprint sights asking)
+    → evaluated (limited limits sights) (begun trail) (look_at_each front) ≡ ends tt after
+    → evaluated (limited limits sights) (begun after) asking ≡ evaluated (limited limits sights) (begun trail) asking
+
+-- a limit that its first looks pass stops it
+abbrev pub FrontStops : Type 0 → Type 0
+FrontStops X =
+    (limits : LookLimits) (sights : Sights) (trail after : Trail) (asking : LookAsking X) (front : List (List ℕ))
+    (name : LimitName) → IsFront front (footprint sights asking)
+    → evaluated (limited limits sights) (begun trail) (look_at_each front) ≡ stopped name after
+    → evaluated (limited limits sights) (begun trail) asking ≡ stopped name after
+
+-- looks at the paths of a question leave the trail behind it
+abbrev pub QuestionIsCounted : Type 0 → Type 0
+QuestionIsCounted X =
+    (limits : LookLimits) (sights : Sights) (before after : Trail) (asking : LookAsking X) (value : X)
+    → evaluated (limited limits sights) (begun before) asking ≡ ends value after
+    → evaluated (limited limits sights) after (look_at_each after.question) ≡ ends tt after

@@ -4,6 +4,7 @@
 
 ghost use Rattle.kept_spec.specs.CertificateExamples.{CertificateExamples};
 ghost use Rattle.kept_spec.specs.Laws.{OutcomeIsCertified, EndIsCertified, CertifiedIsAsked, OneCertified, SeenIfAgreed};
+ghost use Rattle.kept_spec.specs.Laws.{FrontIsLooked, FrontGoesBefore, FrontStops, QuestionIsCounted};
 ghost use Rattle.kept_spec.specs.Replays.{ReplaysFootprint};
 
 /// To look at the footprint of an asking again, in its order, is to ask it.
@@ -37,6 +38,26 @@ pub fn one_certified<X>()
 /// What was seen is seen again exactly where nothing changed.
 pub fn seen_if_agreed()
     ensures { SeenIfAgreed }
+{}
+
+/// Where the first looks of a certificate see the same, the asking begins with these looks and the next one.
+pub fn front_is_looked<X>()
+    ensures { FrontIsLooked X }
+{}
+
+/// The first looks of an asking may go before it, in a question of their own.
+pub fn front_goes_before<X>()
+    ensures { FrontGoesBefore X }
+{}
+
+/// A limit that the first looks of an asking pass stops it.
+pub fn front_stops<X>()
+    ensures { FrontStops X }
+{}
+
+/// To look again where a question looked changes nothing.
+pub fn question_is_counted<X>()
+    ensures { QuestionIsCounted X }
 {}
 
 /// Worked examples of certificates.

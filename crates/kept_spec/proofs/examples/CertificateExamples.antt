@@ -1,11 +1,11 @@
 -- The worked examples of certificates, by computation.
-use Rattle.std.proofs.Common.{◌≡◌, [], ◌∷◌, refl, List}
-use Rattle.std.specs.Prelude.{codes, Some, None, All, replicate}
+use Rattle.std.proofs.Common.{◌≡◌, [], ◌∷◌, refl}
+use Rattle.std.specs.Prelude.{codes, Some, None, replicate}
 use Rattle.std.proofs.lemmas.List.Elements.{All-nil, All-cons, All-head, All-tail}
-use Rattle.tree_spec.specs.LookAskings.{Sights, footprint}
+use Rattle.tree_spec.specs.LookAskings.{Sights}
 use Rattle.tree_spec.specs.LookExamples.{stands}
 use Rattle.tree_spec.specs.declared.Entry.TheVariants.{Stored, Directory}
-use Rattle.kept_spec.specs.Certificates.{LookSeen, looks_seen, AreSeen}
+use Rattle.kept_spec.specs.Certificates.{LookSeen, AreSeen}
 use Rattle.kept_spec.specs.CertificateExamples.{nearer, before, decided, CertificateExamples}
 use Rattle.kept_spec.proofs.Certifying.{outcome_is_certified}
 
