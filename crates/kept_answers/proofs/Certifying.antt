@@ -1,22 +1,25 @@
 -- What an answer that was given certifies, and how it is given again.
---     certified            the looks of its question certify an answer
---     with_answer          a response to looks, with an answer in the place of what they come to
---     answered_again       looks again answer a question whose answer is certified
---     lost, no_memory_begun      memory was wanting behind an answer, and before the first look
---     fault_again          a fault of looks again, in the place of a question that can't be refused
---     node_named           the same of one that may be
-use Rattle.std.proofs.Common.{◌≡◌, ℕ, List, [], ◌∷◌, Option, Some, None, Result, Ok, Err, IfSome, refl, sym, ap, ◌∙◌, subst}
+--     kept_by              the looks of its question certify an answer
+--     given_again          looks that see the same answer a question whose answer is kept
+--     failed_again         so do looks of which one fails
+--     behind_looks         a question behind looks of which one sees otherwise
+--     given_still, failed_behind      an answer, behind looks at the paths of its question
+--     lost                 memory was wanting behind an answer
+--     failing_of, as_failing, by_failing, node_failing      a fault of looks alone, in each place
+use Rattle.std.proofs.Common.{◌≡◌, ℕ, List, [], ◌∷◌, ◌++◌, Option, Some, None, Result, Ok, Err, IfSome, refl, sym, ap, ◌∙◌, subst}
 use Rattle.std.specs.Prelude.{All, Contains}
-use Rattle.std.proofs.lemmas.List.Elements.{All-contains_itself}
-use Rattle.asking_spec.specs.Askings.{answered}
-use Rattle.asking_spec.specs.Evaluation.{Ended, ends, then_ended, evaluated}
+use Rattle.std.proofs.lemmas.List.Elements.{All-append, All-contains, All-contains_itself}
+use Rattle.asking_spec.specs.Askings.{answered, and_then}
+use Rattle.asking_spec.specs.Evaluation.{Ended, ends, stopped, then_ended, evaluated}
+use Rattle.asking_spec.proofs.AskingLemmas.{questions_then}
 use Rattle.asking_spec.proofs.EvaluationLemmas.{evaluated_then}
 use Rattle.tree_spec.proofs.Contained.{all_contained, contains_seen, seen_contained}
 use Rattle.tree_spec.proofs.FootprintSets.{footprint_is_set}
-use Rattle.tree_spec.proofs.ToldStates.{if_some}
+use Rattle.tree_spec.proofs.Fronts.{all_front}
+use Rattle.tree_spec.proofs.LimitedLooks.{ends_counted}
+use Rattle.tree_spec.proofs.ToldStates.{if_some, if_two, looks_then}
 use Rattle.tree_spec.specs.LookAskings.{Sights, LookAsking, look_at_each, looks, footprint}
 use Rattle.tree_spec.specs.LookLimits.{Trail, begun, look_limits, limited}
-use Rattle.tree_spec.specs.States.{FolderState}
 use Rattle.tree_spec.specs.Trees.{Tree}
 use Rattle.tree_spec.specs.declared.LimitName.{LimitName}
 use Rattle.tree_spec.specs.declared.LimitName.TheVariants.{File, Bytes, Looks, Modules, ModuleRequests, Requests, Specifier, Entries, Brackets, Depth, Session, Map, Choices}
@@ -24,76 +27,57 @@ use Rattle.node_spec.specs.NodeAnswers.{Refusal, Resolving}
 use Rattle.node_resolve.proofs.Answering.{reframed}
 use Rattle.node_resolve.specs.Responses.{node_fault, by_node_fault}
 use Rattle.node_resolve.specs.declared.fault.NodeFault.{NodeFault}
-use Rattle.package_lookup.specs.Answered.{State, state, Comes, Tells, Answered}
-use Rattle.package_lookup.specs.declared.known.Known.{Known}
+use Rattle.package_lookup.specs.Answered.{State, state, Fails, Comes, Tells, IsLookOf, Answered}
 use Rattle.package_lookup.specs.Looked.{Sees, SomeSights}
-use Rattle.package_lookup.specs.Responses.{Response, given, fails, passes, not_read, no_memory, never, by_limit, by_fault, deep_config}
+use Rattle.package_lookup.specs.Responses.{Response, Failing, given, fails, passes, not_read, no_memory, never, by_limit, by_fault, deep_config}
+use Rattle.package_lookup.specs.Trails.{Lengthens}
 use Rattle.package_lookup.specs.declared.fault.LookupFault.{LookupFault}
 use Rattle.package_lookup.specs.declared.fault.LookupFault.TheVariants.{ReadFault, Limit, InvalidConfig, Memory}
-use Rattle.package_lookup.proofs.Questions.{sees_still, no_memory_now}
-use Rattle.kept_spec.specs.Certificates.{LookSeen, paths_of, IsAnswered, IsCertified}
+use Rattle.package_lookup.proofs.Learnings.{learns_then, learns_by, learns_at}
+use Rattle.package_lookup.proofs.Questions.{carried, failed, grows_twice, lengthens_twice, sees_still, then_given}
+use Rattle.kept_spec.specs.Certificates.{LookSeen, paths_of, AreSeen}
+use Rattle.kept_spec.specs.Replays.{IsFront}
 use Rattle.kept_spec.proofs.Certifying.{end_is_certified, certified_is_asked}
-use Rattle.kept_answers.specs.KnownLooks.{IsAsKnown, AreLooksAt}
+use Rattle.kept_spec.proofs.FrontLooks.{front_is_looked, front_goes_before, front_stops, question_is_counted}
+use Rattle.kept_answers.specs.KnownLooks.{AreLooksAt, afresh, IsSeenAgain, LooksTo, IsKept}
 use Rattle.kept_answers.proofs.KnownLemmas.{all_seen}
 
-abbrev pub afresh : State → State
-afresh before = state before.folder before.known (begun before.trail)
+-- what is told, by name
+if_told : {A : Type 0} {P : A → Type 0} (told : Option A) → ((x : A) → told ≡ Some x → P x) → IfSome told P
+if_told None each = tt
+if_told (Some x) each = each x refl
+
+told_so : {A : Type 0} {P : A → Type 0} (told : Option A) (x : A) → told ≡ Some x → IfSome told P → P x
+told_so {A} {P} told x same is = subst (λ t. IfSome t P) same is
 
 -- ---- an answer that was given is certified by its looks
 
-pub certified : {X : Type 0} → SomeSights → (before after : State) (asking : LookAsking X) (value : X)
-    → Answered (afresh before) asking (given value) after
+pub kept_by : {X : Type 0} → SomeSights → (before middle after : State) (asking : LookAsking X) (value : X)
+    (response : Response (Unit {0})) → Answered (afresh before) asking (given value) middle
+    → Answered middle (look_at_each middle.trail.question) response after
     → IfSome before.folder.holds
-    (λ tree. (looks : List LookSeen) → AreLooksAt after.known after.trail.question looks
-    → IsCertified asking value looks)
-certified some before after asking value a =
-    if_some {P = λ tree. Tells tree (afresh before) asking (given value) after}
-    {Q = λ tree. (looks : List LookSeen) → AreLooksAt after.known after.trail.question looks
-    → IsCertified asking value looks}
+    (λ tree. (looks : List LookSeen) → AreLooksAt after.known middle.trail.question looks → IsKept asking value looks)
+kept_by some before middle after asking value response a b =
+    if_two {P = λ tree. Tells tree (afresh before) asking (given value) middle}
+    {Q = λ tree. Tells tree middle (look_at_each middle.trail.question) response after}
+    {R = λ tree. (looks : List LookSeen) → AreLooksAt after.known middle.trail.question looks
+    → IsKept asking value looks}
     before.folder.holds
-    (λ tree tells looks are.
+    (λ tree tells later looks are.
     let standing = some tree before.known in
-    end_is_certified look_limits standing.0 before.trail asking value after.trail looks
-    (tells.says standing.0 standing.1) are.paths_are
-    (all_seen tree after.known standing.0 looks
-    (sees_still tree before.known after.known standing.0 tells.same standing.1) are.each))
+    let here = all_seen tree after.known standing.0 looks
+    (sees_still tree middle.known after.known standing.0 later.same
+    (sees_still tree before.known middle.known standing.0 tells.same standing.1)) are.each in
+    record {
+      certified = end_is_certified look_limits standing.0 before.trail asking value middle.trail looks
+          (tells.says standing.0 standing.1) are.paths_are here;
+      shown = (standing.0, here);
+    })
     a.tells
+    (subst (λ holds. IfSome holds (λ tree. Tells tree middle (look_at_each middle.trail.question) response after))
+    a.folder.tree b.tells)
 
 -- ---- looks again
-
-abbrev pub with_answer : {X : Type 0} → X → Response (Unit {0}) → Response X
-with_answer value (given done) = given value
-with_answer value (fails failing) = fails failing
-
-module _ {X : Type 0} (value : X) where
-  again_by : (end : Ended (Unit {0}) Trail LimitName) (response : Response (Unit {0})) (after : Trail)
-      → Comes end response after
-      → Comes (then_ended end (λ done later. ends value later)) (with_answer value response) after
-  again_by end (given done) after e = ap (λ x. then_ended x (λ d later. ends value later)) e
-  again_by end (fails (passes name)) after e = ap (λ x. then_ended x (λ d later. ends value later)) e
-  again_by end (fails not_read) after e = tt
-  again_by end (fails no_memory) after e = tt
-  again_by end (fails never) after e = e
-
-  same_memory : (response : Response (Unit {0})) → response ≡ fails no_memory
-      → with_answer value response ≡ fails no_memory
-  same_memory (given done) e = absurd (cc)
-  same_memory (fails failing) e = (let same : failing ≡ no_memory = cc in ap fails same)
-
-  same_read : (response : Response (Unit {0})) → response ≡ fails not_read
-      → with_answer value response ≡ fails not_read
-  same_read (given done) e = absurd (cc)
-  same_read (fails failing) e = (let same : failing ≡ not_read = cc in ap fails same)
-
-  back_read : (response : Response (Unit {0})) → with_answer value response ≡ fails not_read
-      → response ≡ fails not_read
-  back_read (given done) e = absurd (cc)
-  back_read (fails failing) e = (let same : failing ≡ not_read = cc in ap fails same)
-
-  back_never : (response : Response (Unit {0})) → with_answer value response ≡ fails never
-      → response ≡ fails never
-  back_never (given done) e = absurd (cc)
-  back_never (fails failing) e = (let same : failing ≡ never = cc in ap fails same)
 
 looks_each : (sights : Sights) (paths : List (List ℕ)) → looks sights (look_at_each paths) ≡ paths
 looks_each sights [] = refl
@@ -107,110 +91,91 @@ footprint_looks sights asking =
     (λ path held. contains_seen path (looks sights asking)
     (sym ((footprint_is_set sights asking).same_paths path) ∙ seen_contained path (footprint sights asking) held))
 
-pub answered_again : {X : Type 0} (before after : State) (asking : LookAsking X) (value : X) (seen : List LookSeen)
-    (response : Response (Unit {0})) → All (IsAsKnown before.known) seen
-    → IfSome before.folder.holds (λ tree. IsCertified asking value seen)
-    → Answered (afresh before) (look_at_each (paths_of seen)) response after
-    → Answered (afresh before) asking (with_answer value response) after
-answered_again {X} before after asking value seen response known certified a =
-    reframed (afresh before) after (look_at_each (paths_of seen)) asking response (with_answer value response) a
-    (same_memory value response) (same_read value response) (back_read value response) (back_never value response)
-    (λ tree sights holds sees.
-    subst (λ end. Comes end (with_answer value response) after.trail)
-    (sym (certified_is_asked look_limits sights before.trail asking value seen (certified_at tree holds)
-    (all_seen tree before.known sights seen sees known)
-    ∙ evaluated_then (limited look_limits sights) (begun before.trail) (look_at_each (paths_of seen))
-    (λ done. answered value)))
-    (again_by value (evaluated (limited look_limits sights) (begun before.trail) (look_at_each (paths_of seen)))
-    response after.trail ((told_at tree holds).says sights sees)))
-    (λ tree sights holds sees.
-    let is = (certified_at tree holds).each sights (all_seen tree before.known sights seen sees known) in
-    subst (All (Contains (looks sights asking))) (is.paths ∙ sym (looks_each sights (paths_of seen)))
-    (footprint_looks sights asking))
-  where
-    certified_at : (tree : Tree) → before.folder.holds ≡ Some tree → IsCertified asking value seen
-    certified_at tree holds = subst (λ h. IfSome h (λ t. IsCertified asking value seen)) holds certified
+module _ {X : Type 0} (asking : LookAsking X) (value : X) (seen : List LookSeen) (before : State)
+    (kept : IfSome before.folder.holds (λ tree. IsKept asking value seen)) where
+  kept_at : (tree : Tree) → before.folder.holds ≡ Some tree → IsKept asking value seen
+  kept_at tree holds = told_so {P = λ t. IsKept asking value seen} before.folder.holds tree holds kept
 
-    told_at : (tree : Tree) → before.folder.holds ≡ Some tree
-        → Tells tree (afresh before) (look_at_each (paths_of seen)) response after
-    told_at tree holds =
-        subst (λ h. IfSome h (λ t. Tells t (afresh before) (look_at_each (paths_of seen)) response after)) holds a.tells
+  -- where all of them see the same
+  pub given_again : (after : State) → IsSeenAgain before seen after → Answered (afresh before) asking (given value) after
+  given_again after again =
+      reframed (afresh before) after (look_at_each (paths_of seen)) asking (given tt) (given value) again.answered
+      (λ e. absurd (cc)) (λ e. absurd (cc)) (λ e. absurd (cc)) (λ e. absurd (cc)) comes within
+    where
+      told_at : (tree : Tree) → before.folder.holds ≡ Some tree
+          → Tells tree (afresh before) (look_at_each (paths_of seen)) (given tt) after
+      told_at tree holds =
+          told_so {P = λ t. Tells t (afresh before) (look_at_each (paths_of seen)) (given tt) after}
+          before.folder.holds tree holds again.answered.tells
 
--- ---- memory was wanting behind an answer
+      here : (tree : Tree) (sights : Sights) → before.folder.holds ≡ Some tree → Sees tree before.known sights
+          → AreSeen sights seen
+      here tree sights holds sees =
+          all_seen tree after.known sights seen
+          (sees_still tree before.known after.known sights (told_at tree holds).same sees) again.each
 
-pub lost : {X : Type 0} (before after : State) (asking : LookAsking X) (value : X)
-    → Answered before asking (given value) after → Answered {X = X} before asking (fails no_memory) after
-lost {X} before after asking value a =
-    reframed {X = X} {Y = X} before after asking asking (given value) (fails no_memory) a (λ e. absurd (cc))
-    (λ e. absurd (cc)) (λ e. absurd (cc)) (λ e. absurd (cc)) (λ tree sights holds sees. tt)
-    (λ tree sights holds sees. All-contains_itself (looks sights asking))
+      comes : (tree : Tree) (sights : Sights) → before.folder.holds ≡ Some tree → Sees tree before.known sights
+          → evaluated (limited look_limits sights) (begun before.trail) asking ≡ ends value after.trail
+      comes tree sights holds sees =
+          certified_is_asked look_limits sights before.trail asking value seen (kept_at tree holds).certified
+          (here tree sights holds sees)
+          ∙ (evaluated_then (limited look_limits sights) (begun before.trail) (look_at_each (paths_of seen))
+          (λ done. answered value)
+          ∙ ap (λ end. then_ended end (λ done later. ends value later)) ((told_at tree holds).says sights sees))
 
--- and before its first look
-pub no_memory_begun : {X : Type 0} (folder : FolderState) (known : Known) (old now : Trail) (asking : LookAsking X)
-    → now ≡ begun old → Answered {X = X} (state folder known (begun old)) asking (fails no_memory) (state folder known now)
-no_memory_begun {X} folder known old now asking same =
-    subst (λ t. Answered {X = X} (state folder known (begun old)) asking (fails no_memory) (state folder known t))
-    (sym same) (no_memory_now (state folder known (begun old)) asking)
+      within : (tree : Tree) (sights : Sights) → before.folder.holds ≡ Some tree → Sees tree before.known sights
+          → All (Contains (looks sights asking)) (looks sights (look_at_each (paths_of seen)))
+      within tree sights holds sees =
+          let is = (kept_at tree holds).certified.each sights (here tree sights holds sees) in
+          subst (All (Contains (looks sights asking))) (is.paths ∙ sym (looks_each sights (paths_of seen)))
+          (footprint_looks sights asking)
 
--- ---- faults of looks again
+  -- ---- up to one
 
-with_limit : {X : Type 0} (value : X) (which : LimitName)
-    → with_answer value (by_limit (fails never) which) ≡ by_limit (fails never) which
-with_limit value File = refl
-with_limit value Bytes = refl
-with_limit value Looks = refl
-with_limit value Modules = refl
-with_limit value ModuleRequests = refl
-with_limit value Requests = refl
-with_limit value Specifier = refl
-with_limit value Entries = refl
-with_limit value Brackets = refl
-with_limit value Depth = refl
-with_limit value Session = refl
-with_limit value Map = refl
-with_limit value Choices = refl
+  module _ (response : Response (Unit {0})) (after : State) (to : LooksTo before seen response after) where
+    abbrev front : List (List ℕ)
+    front = paths_of to.same ++ to.next.path ∷ []
 
-with_fault : {X : Type 0} (value : X) (fault : LookupFault)
-    → with_answer value (by_fault (fails never) (fails never) fault) ≡ by_fault (fails never) (fails never) fault
-with_fault value ReadFault = refl
-with_fault value Memory = refl
-with_fault value InvalidConfig = refl
-with_fault value (Limit which) = with_limit value which
+    told_to : (tree : Tree) → before.folder.holds ≡ Some tree
+        → Tells tree (afresh before) (look_at_each front) response after
+    told_to tree holds =
+        told_so {P = λ t. Tells t (afresh before) (look_at_each front) response after} before.folder.holds tree holds
+        to.answered.tells
 
-pub fault_again : {X : Type 0} (before after : State) (asking : LookAsking X) (value : X) (fault : LookupFault)
-    → Answered before asking (with_answer value (by_fault (fails never) (fails never) fault)) after
-    → Answered before asking (by_fault (fails never) (fails never) fault) after
-fault_again before after asking value fault a =
-    subst (λ r. Answered before asking r after) (with_fault value fault) a
+    is_front : (tree : Tree) (sights : Sights) → before.folder.holds ≡ Some tree → Sees tree before.known sights
+        → IsFront front (footprint sights asking)
+    is_front tree sights holds sees =
+        front_is_looked sights asking value seen to.same to.rest to.next (kept_at tree holds).certified
+        (kept_at tree holds).shown to.split
+        (all_seen tree after.known sights to.same
+        (sees_still tree before.known after.known sights (told_to tree holds).same sees) to.each)
 
-module _ {Y : Type 0} (before after : State) (asking : Resolving Y) (value : Result Y Refusal) where
-  node_limit : (which : LimitName)
-      → Answered before asking (with_answer value (by_limit (fails never) which)) after
-      → Answered before asking (by_limit deep_config which) after
-  node_limit File a = a
-  node_limit Bytes a = a
-  node_limit Looks a = a
-  node_limit Modules a = a
-  node_limit ModuleRequests a = a
-  node_limit Requests a = a
-  node_limit Specifier a = a
-  node_limit Entries a = a
-  node_limit Brackets a = a
-  node_limit Depth a = absurd (a.possible refl)
-  node_limit Session a = a
-  node_limit Map a = a
-  node_limit Choices a = a
+    within_front : (tree : Tree) (sights : Sights) → before.folder.holds ≡ Some tree → Sees tree before.known sights
+        → All (Contains (looks sights asking)) (looks sights (look_at_each front))
+    within_front tree sights holds sees =
+        let is = is_front tree sights holds sees in
+        subst (All (Contains (looks sights asking))) (sym (looks_each sights front))
+        (all_front (Contains (looks sights asking)) front is.0
+        (subst (All (Contains (looks sights asking))) is.1 (footprint_looks sights asking)))
 
-  node_again : (fault : LookupFault)
-      → Answered before asking (with_answer value (by_fault (fails never) (fails never) fault)) after
-      → Answered before asking (by_node_fault (node_fault fault)) after
-  node_again ReadFault a = a
-  node_again Memory a = a
-  node_again InvalidConfig a = absurd (a.possible refl)
-  node_again (Limit which) a = node_limit which a
+  fails_by : (failing : Failing) (sights : Sights) (front : List (List ℕ)) (later : Trail)
+      → IsFront front (footprint sights asking)
+      → Fails (evaluated (limited look_limits sights) (begun before.trail) (look_at_each front)) failing later
+      → Fails (evaluated (limited look_limits sights) (begun before.trail) asking) failing later
+  fails_by (passes name) sights front later is e =
+      front_stops look_limits sights before.trail later asking front name is e
+  fails_by not_read sights front later is e = tt
+  fails_by no_memory sights front later is e = tt
+  fails_by never sights front later is e = e
 
-  pub node_named : (fault : LookupFault) (named : NodeFault) → named ≡ node_fault fault
-      → Answered before asking (with_answer value (by_fault (fails never) (fails never) fault)) after
-      → Answered before asking (by_node_fault named) after
-  node_named fault named same a =
-      subst (λ f. Answered before asking (by_node_fault f) after) (sym same) (node_again fault a)
+  -- where one of them fails
+  pub failed_again : (failing : Failing) (after : State) → LooksTo before seen (fails failing) after
+      → Answered {X = X} (afresh before) asking (fails failing) after
+  failed_again failing after to =
+      reframed {X = Unit {0}} {Y = X} (afresh before) after (look_at_each (front (fails failing) after to)) asking
+      (fails failing) (fails failing) to.answered (carried failing no_memory) (carried failing not_read)
+      (carried failing not_read) (carried failing never)
+      (λ tree sights holds sees. fails_by failing sights (front (fails failing) after to) after.trail
+      (is_front (fails failing) after to tree sights holds sees)
+      ((told_to (fails failing) after to tree holds).says sights sees))
+      (within_front (fails failing) after to)

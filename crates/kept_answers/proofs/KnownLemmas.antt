@@ -1,6 +1,5 @@
 -- What is known to stand there, as looks saw it.
 --     as_seen              a look that was seen sees what stands there
---     is_known, still_known      a look whose path is known so
 --     all_seen             what is known stands there, whatever looks tell
 use Rattle.std.proofs.Common.{◌≡◌, ℕ, nat_lt, Bool, true, false, List, [], ◌∷◌, ◌++◌, length, Option, Some, None, refl, sym, ap, ◌∙◌, subst, append_assoc, append-nil}
 use Rattle.std.specs.Prelude.{All, map}
@@ -18,8 +17,9 @@ use Rattle.package_lookup.specs.declared.held.Seen.{Seen}
 use Rattle.package_lookup.specs.declared.held.Seen.TheVariants as seen
 use Rattle.package_lookup.specs.declared.known.Known.{Known}
 use Rattle.package_lookup.specs.LaidTrees.{look_for}
-use Rattle.package_lookup.specs.Looked.{known_at, look_or, Sees}
+use Rattle.package_lookup.specs.Looked.{known_at, look_or, Sees, Grows}
 use Rattle.package_lookup.specs.SeenLooks.{entry_of, look_seen, within_limit, seen_as}
+use Rattle.package_lookup.proofs.Questions.{known_grows}
 use Rattle.kept_spec.specs.Certificates.{LookSeen, AreSeen}
 use Rattle.kept_answers.specs.KnownLooks.{IsSmall, IsAsKnown}
 
@@ -27,14 +27,6 @@ pub as_seen : (one : Seen) → look_seen one ≡ look_for (entry_of one)
 as_seen seen.Absent = refl
 as_seen seen.Folder = refl
 as_seen (seen.File bytes) = refl
-
-pub is_known : (known : Known) (path own : List ℕ) (one : Seen) (look : Look) → known_at known path ≡ Some look
-    → look_seen one ≡ look → own ≡ path → IsSmall (entry_of one)
-    → IsAsKnown known (record { path = own; found = entry_of one })
-is_known known path own one look here same at small = record {
-  known_so = ap (known_at known) at ∙ (here ∙ ap Some (sym same ∙ as_seen one));
-  small = small;
-}
 
 -- ---- what is known stands there
 
@@ -71,6 +63,20 @@ seen_here tree known sights look sees is =
     stands_by (sights look.path) look.found
     (sees.each look.path
     ∙ (ap (λ l. look_or l (get tree look.path)) is.known_so ∙ within_small look.found is.small))
+
+-- ---- what is known stays so
+
+still_known : (before after : Known) → Grows before after → (look : LookSeen) → IsAsKnown before look
+    → IsAsKnown after look
+still_known before after grows look is = record {
+  known_so = known_grows before after grows look.path (look_for look.found) is.known_so;
+  small = is.small;
+}
+
+pub all_still : (before after : Known) → Grows before after → (looks : List LookSeen)
+    → All (IsAsKnown before) looks → All (IsAsKnown after) looks
+all_still before after grows looks all =
+    All-weaker (IsAsKnown before) (IsAsKnown after) (still_known before after grows) looks all
 
 pub all_seen : (tree : Tree) (known : Known) (sights : Sights) (looks : List LookSeen) → Sees tree known sights
     → All (IsAsKnown known) looks → AreSeen sights looks

@@ -1,14 +1,14 @@
 -- Tables of answers, each answer under its question.
 --     modules_at, requests_at             what is kept under a path, and under a request
---     IsModuleOf path kept                the looks certify the source of the module at the path
---     IsRequestOf conditions request kept      the looks certify Node's answer for the request under these conditions
+--     IsModuleOf path kept                the source of the module at the path is kept with its looks
+--     IsRequestOf conditions request kept      so is Node's answer for the request under these conditions
 --     AreModules table, AreRequests table      so it is with all that is kept
 use Rattle.std.specs.Prelude.{◌≡◌, ℕ, List, Option, Some, Ok, bytes_eq}
 use Rattle.std.specs.HashMap as map
 use Rattle.node_resolve.specs.Places.{module_of}
 use Rattle.node_spec.specs.EsmResolve.{node}
 use Rattle.trace_spec.specs.Questions.{module_source}
-use Rattle.kept_spec.specs.Certificates.{IsCertified}
+use Rattle.kept_answers.specs.KnownLooks.{IsKept}
 use Rattle.kept_answers.specs.Entries.{ModuleSeen, source_seen, Request, is_request}
 use Rattle.kept_answers.specs.declared.modules.KeptModules.{KeptModules}
 use Rattle.kept_answers.specs.declared.requests.KeptRequest.{KeptRequest}
@@ -21,11 +21,11 @@ abbrev pub requests_at : KeptRequests → Request → Option KeptRequest
 requests_at table request = map.get is_request table.entries request
 
 pub record IsModuleOf (path : List ℕ) (kept : ModuleSeen) : Type 0 where
-  pub certified : IsCertified (module_source path) (Ok (source_seen kept)) kept.looks
+  pub is : IsKept (module_source path) (Ok (source_seen kept)) kept.looks
 
 pub record IsRequestOf (conditions : List (List ℕ)) (request : Request) (kept : KeptRequest) : Type 0 where
-  pub certified :
-      IsCertified (node conditions request.parent request.specifier) (Ok (module_of kept.found)) kept.looks.value
+  pub is :
+      IsKept (node conditions request.parent request.specifier) (Ok (module_of kept.found.value)) kept.looks.value
 
 -- own: it says nothing of a tree, so that a table that was right stays right whatever changes
 pub record AreModules (table : KeptModules) : Type 0 where
@@ -34,4 +34,4 @@ pub record AreModules (table : KeptModules) : Type 0 where
 pub record AreRequests (table : KeptRequests) : Type 0 where
   pub each :
       (request : Request) (kept : KeptRequest) → requests_at table request ≡ Some kept
-      → IsRequestOf table.conditions request kept
+      → IsRequestOf table.names request kept

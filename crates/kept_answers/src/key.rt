@@ -1,4 +1,4 @@
-use primitives::Text;
+use shared_types::Text;
 use std::hash::{Hash, Hasher};
 use std::marker::Model;
 use tree_model::Path;

@@ -1,20 +1,18 @@
 //! The looks of a question, with what they saw.
-ghost use Rattle.std.specs.Prelude.{◌≡◌, true, Some, IfOk, IfSome, All, option_copied};
+ghost use Rattle.std.specs.Prelude.{◌≡◌, IfOk};
+ghost use Rattle.std.specs.Bool.{Decides};
 ghost use Rattle.tree_spec.specs.LookAskings.{look_at_each};
-ghost use Rattle.tree_spec.specs.LookLimits.{begun};
 ghost use Rattle.package_lookup.specs.Answered.{state, Answered};
-ghost use Rattle.package_lookup.specs.Looked.{known_at};
-ghost use Rattle.package_lookup.specs.Responses.{looked, itself};
-ghost use Rattle.package_lookup.specs.SeenLooks.{look_seen};
-ghost use Rattle.kept_spec.specs.Certificates.{paths_of};
-ghost use Rattle.kept_answers.specs.KnownLooks.{IsAsKnown, AreLooksAt};
+ghost use Rattle.package_lookup.specs.LaidTrees.{look_for};
+ghost use Rattle.package_lookup.specs.Responses.{looked};
+ghost use Rattle.package_lookup.specs.SeenLooks.{entry_of, look_seen};
+ghost use Rattle.kept_answers.specs.KnownLooks.{done, IsSmall, AreLooksAt, LooksAgain};
 
 use package_lookup::{Known, LookupFault, Seen, Trail};
-use primitives::{Listed, Memory};
+use shared_types::{Listed, Memory};
 use std::alloc::Global;
 use std::marker::Model;
 use tree_model::{Folder, Path, Paths};
-use tree_spec::MOST_FILE_BYTES;
 
 /// A look and what it saw, which is no file above the limit. Bytes are shared with what is known.
 #[derive(Drop)]
@@ -36,58 +34,32 @@ impl Model for LookedAt {
 }
 
 impl LookedAt {
-    /// The look at a path, as what stands there is known; none where nothing is known of it, or a file above the limit.
-    pub fn of(alloc: Global, known: &Known, path: &Path) -> Result<Option<LookedAt>, Memory>
-        ensures { IfOk result (λ found. IfSome found (λ look. (look.path ≡ path.now) × IsAsKnown known.now look)) }
+    /// A look at a path, and what it saw.
+    fn of(path: Path, seen: Seen) -> LookedAt
+        requires { IsSmall (entry_of seen) }
+        ensures { result ≡ record { path = path; found = entry_of seen } }
     {
-        match seen_at(known, path) {
-            None => Ok(None),
-            Some(seen) => {
-                let seen = seen.copy()?;
-                if seen.size() > MOST_FILE_BYTES {
-                    return Ok(None);
-                }
-                Ok(Some(LookedAt {
-                    path: path.copy(alloc)?,
-                    seen,
-                }))
-            }
-        }
+        LookedAt { path, seen }
     }
 
     /// The path.
     pub fn path(&self) -> &Path
-        ensures { result.now ≡ self.now.path }
+        ensures path { result.now ≡ self.now.path }
+        ensures small { IsSmall self.now.found }
     {
         &self.path
     }
 
-    /// Whether the same is known to stand there.
-    pub fn is_as_known(&self, known: &Known) -> bool
-        ensures { result ≡ true → IsAsKnown known.now self.now }
+    /// Whether it saw the same.
+    fn saw(&self, seen: &Seen) -> bool
+        ensures { Decides result (look_seen seen.now ≡ look_for self.now.found) }
     {
-        match seen_at(known, &self.path) {
-            None => false,
-            Some(seen) => same_seen(seen, &self.seen),
-        }
-    }
-}
-
-// What is known to stand at a path, unless that is a file above the limit.
-fn seen_at<'a>(known: &'a Known, path: &Path) -> Option<&'a Seen>
-    ensures { IfSome (option_copied result) (λ seen. known_at known.now path.now ≡ Some (look_seen seen)) }
-{
-    match known.find(path) {
-        None => None,
-        Some(held) => match held.seen() {
-            None => None,
-            Some(seen) => Some(seen),
-        },
+        same_seen(seen, &self.seen)
     }
 }
 
 fn same_seen(one: &Seen, other: &Seen) -> bool
-    ensures { result ≡ true → look_seen one.now ≡ look_seen other.now }
+    ensures { Decides result (look_seen one.now ≡ look_seen other.now) }
 {
     match one {
         Seen::Absent => match other {
@@ -108,55 +80,72 @@ fn same_seen(one: &Seen, other: &Seen) -> bool
     }
 }
 
-/// The looks at these paths, as what stands there is known; none where one of them isn't known, or a file above the
-/// limit.
-pub fn looks_of(
+/// Looks again at the paths of the present question, which leaves the trail.
+pub(crate) fn looks_of<F: Folder>(
     alloc: Global,
-    known: &Known,
-    paths: &Paths,
-) -> Result<Option<Listed<LookedAt>>, Memory>
-    ensures { IfOk result (λ found. IfSome found (λ looks. AreLooksAt known.now paths.now looks)) }
+    known: &mut Known,
+    folder: &mut F,
+    trail: &mut Trail,
+) -> Result<Listed<LookedAt>, LookupFault>
+    ensures answered { Answered (state (F.state folder.old) known.old trail.old) (look_at_each trail.old.question)
+        (looked done result) (state (F.state folder.new) known.new trail.new) }
+    ensures looks { IfOk result (λ looks. AreLooksAt known.new trail.old.question looks) }
+{
+    let paths = copy_of(alloc, trail.question())?;
+    looks_at(alloc, known, folder, trail, paths.as_slice())
+}
+
+fn copy_of(alloc: Global, paths: &Paths) -> Result<Paths, Memory>
+    ensures { IfOk result (λ copy. copy ≡ paths.now) }
+{
+    let mut copy = Paths::new(alloc);
+    for path in paths.as_slice() {
+        copy.push(path.copy(alloc)?)?;
+    }
+    Ok(copy)
+}
+
+// Looks at these paths, one after another.
+fn looks_at<F: Folder>(
+    alloc: Global,
+    known: &mut Known,
+    folder: &mut F,
+    trail: &mut Trail,
+    paths: &[Path],
+) -> Result<Listed<LookedAt>, LookupFault>
+    ensures answered { Answered (state (F.state folder.old) known.old trail.old) (look_at_each paths.now)
+        (looked done result) (state (F.state folder.new) known.new trail.new) }
+    ensures looks { IfOk result (λ looks. AreLooksAt known.new paths.now looks) }
 {
     let mut looks = Listed::new(alloc);
-    for path in paths.as_slice() {
-        match LookedAt::of(alloc, known, path)? {
-            None => return Ok(None),
-            Some(look) => looks.push(look)?,
-        }
-    }
-    Ok(Some(looks))
-}
-
-/// Whether the same is known to stand at each of these paths.
-pub fn are_as_known(known: &Known, looks: &[LookedAt]) -> bool
-    ensures { result ≡ true → All (IsAsKnown known.now) looks.now }
-{
-    let mut rest = looks;
-    while let Some((look, others)) = rest.split_first() {
-        if !look.is_as_known(known) {
-            return false;
-        }
+    let mut rest = paths;
+    while let Some((path, others)) = rest.split_first() {
+        let seen = known.look(alloc, folder, path, trail)?;
+        looks.push(LookedAt::of(path.copy(alloc)?, seen))?;
         rest = others;
     }
-    true
+    Ok(looks)
 }
 
-/// Looks at these paths again, in a new question.
-pub fn look_again<F: Folder>(
+/// Looks again at the paths of these looks, in a new question, up to the first that sees otherwise. Whether none does.
+pub(crate) fn look_again<F: Folder>(
     alloc: Global,
     known: &mut Known,
     folder: &mut F,
     trail: &mut Trail,
     looks: &[LookedAt],
-) -> Result<(), LookupFault>
-    ensures { Answered (state (F.state folder.old) known.old (begun trail.old)) (look_at_each (paths_of looks.now))
-        (looked itself result) (state (F.state folder.new) known.new trail.new) }
+) -> Result<bool, LookupFault>
+    ensures { LooksAgain (state (F.state folder.old) known.old trail.old) looks.now result
+        (state (F.state folder.new) known.new trail.new) }
 {
     trail.begin();
     let mut rest = looks;
     while let Some((look, others)) = rest.split_first() {
-        known.look(alloc, folder, look.path(), trail)?;
+        let seen = known.look(alloc, folder, look.path(), trail)?;
+        if !look.saw(&seen) {
+            return Ok(false);
+        }
         rest = others;
     }
-    Ok(())
+    Ok(true)
 }

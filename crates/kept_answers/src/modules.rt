@@ -1,15 +1,13 @@
-ghost use Rattle.std.specs.Prelude.{◌≡◌, List, ℕ, None, Some, IfOk, IfSome, OnOk, OnErr, All, bytes_eq, option_copied};
+ghost use Rattle.std.specs.Prelude.{◌≡◌, List, ℕ, None, Some, Ok, IfOk, IfSome, OnOk, OnErr, bytes_eq, option_copied};
 ghost use Rattle.std.specs.Prelude.{if◌then◌else◌};
 ghost use Rattle.std.specs.HashMap as map;
-ghost use Rattle.module_sources.specs.Shown.{AreInside};
+ghost use Rattle.module_sources.specs.Shown.{IsSource};
 ghost use Rattle.kept_answers.specs.Entries.{module_seen};
-ghost use Rattle.kept_answers.specs.KnownLooks.{IsAsKnown};
 ghost use Rattle.kept_answers.specs.Tables.{modules_at, IsModuleOf, AreModules};
 
-use crate::looks::{LookedAt, are_as_known};
+use crate::looks::LookedAt;
 use module_sources::Source;
-use package_lookup::Known;
-use primitives::{Listed, Memory};
+use shared_types::{Listed, Memory};
 use std::alloc::Global;
 use std::collections::HashMap;
 use std::marker::Model;
@@ -24,20 +22,21 @@ pub struct KeptModule {
 }
 
 impl Model for KeptModule {
-    ghost use Rattle.module_sources.specs.Shown.{AreInside};
+    ghost use Rattle.std.specs.Prelude.{Ok};
+    ghost use Rattle.module_sources.specs.Shown.{IsSource};
     ghost use Rattle.kept_answers.specs.Entries.{ModuleSeen, module_seen};
 
     ghost Value = { ModuleSeen };
 
     ghost view = { λ kept. module_seen kept.source kept.looks.value };
 
-    ghost invariant = { λ kept. AreInside kept.source.bytes.value kept.source.requests.value };
+    ghost invariant = { λ kept. IsSource (Ok kept.source) };
 }
 
 impl KeptModule {
     /// A source, with the looks that decided it.
     pub fn of(source: Source, looks: Rc<Listed<LookedAt>>) -> KeptModule
-        requires { AreInside source.bytes.value source.requests.value }
+        requires { IsSource (Ok source) }
         ensures { result ≡ module_seen source looks.value }
     {
         KeptModule { source, looks }
@@ -47,7 +46,7 @@ impl KeptModule {
     pub fn source(&self) -> Result<Source, Memory>
         ensures bytes { IfOk result (λ source. source.bytes.value ≡ self.now.bytes) }
         ensures requests { IfOk result (λ source. source.requests.value ≡ self.now.requests) }
-        ensures inside { IfOk result (λ source. AreInside source.bytes.value source.requests.value) }
+        ensures is { IfOk result (λ source. IsSource (Ok source)) }
     {
         source_copy(&self.source)
     }
@@ -97,21 +96,12 @@ impl KeptModules {
         }
     }
 
-    /// What is kept of a module, where the same is known to stand at each path that decided it.
-    pub fn as_known(&self, known: &Known, path: &Path) -> Option<&KeptModule>
-        ensures known { IfSome (option_copied result) (λ kept. All (IsAsKnown known.now) kept.looks) }
+    /// What is kept of a module.
+    pub fn get(&self, path: &Path) -> Option<&KeptModule>
+        ensures get { option_copied result ≡ modules_at self.now path.now }
         ensures right { AreModules self.now → IfSome (option_copied result) (λ kept. IsModuleOf path.now kept) }
     {
-        match self.entries.get(path) {
-            None => None,
-            Some(kept) => {
-                if are_as_known(known, kept.looks()) {
-                    Some(kept)
-                } else {
-                    None
-                }
-            }
-        }
+        self.entries.get(path)
     }
 
     /// Keeps the source of a module.

@@ -1,16 +1,14 @@
-ghost use Rattle.std.specs.Prelude.{◌≡◌, true, None, Some, IfOk, IfSome, OnOk, OnErr, All, option_copied};
+ghost use Rattle.std.specs.Prelude.{◌≡◌, None, Some, IfOk, IfSome, OnOk, OnErr, take, true, option_copied};
 ghost use Rattle.std.specs.Prelude.{if◌then◌else◌};
 ghost use Rattle.std.specs.HashMap as map;
 ghost use Rattle.kept_answers.specs.Entries.{Request, is_request};
-ghost use Rattle.kept_answers.specs.KnownLooks.{IsAsKnown};
 ghost use Rattle.kept_answers.specs.Tables.{requests_at, IsRequestOf, AreRequests};
 
 use crate::key::RequestKey;
-use crate::looks::{LookedAt, are_as_known};
+use crate::looks::LookedAt;
 use condition_match::Conditions;
 use node_resolve::Found;
-use package_lookup::Known;
-use primitives::{Listed, Memory};
+use shared_types::{Listed, Memory, Text};
 use std::alloc::Global;
 use std::collections::HashMap;
 use std::rc::Rc;
@@ -18,67 +16,70 @@ use std::rc::Rc;
 /// The module to which a request leads, and the looks that decided it.
 #[derive(Drop)]
 pub struct KeptRequest {
-    pub(crate) found: Found,
+    pub(crate) found: Rc<Found>,
     pub(crate) looks: Rc<Listed<LookedAt>>,
 }
 
 impl KeptRequest {
-    /// The same module, with its looks shared.
-    pub fn copy(&self, alloc: Global) -> Result<KeptRequest, Memory>
-        ensures found { IfOk result (λ copy. copy.found ≡ self.now.found) }
+    /// The same, with all of it shared.
+    pub fn copy(&self) -> Result<KeptRequest, Memory>
+        ensures found { IfOk result (λ copy. copy.found.value ≡ self.now.found.value) }
         ensures looks { IfOk result (λ copy. copy.looks.value ≡ self.now.looks.value) }
     {
         Ok(KeptRequest {
-            found: self.found.copy(alloc)?,
+            found: Rc::clone(&self.found)?,
             looks: Rc::clone(&self.looks)?,
         })
     }
 }
 
-/// Node's answers that are kept under some conditions, each under its request.
+/// Node's answers that are kept under conditions of these names, each under its request.
 #[derive(Drop)]
 pub struct KeptRequests {
-    pub(crate) conditions: Conditions,
+    pub(crate) names: Listed<Text>,
     pub(crate) entries: HashMap<RequestKey, KeptRequest>,
 }
 
 impl KeptRequests {
     /// Nothing is kept.
-    pub fn new(alloc: Global, conditions: Conditions) -> KeptRequests
-        ensures none { (request : Request) → requests_at result request ≡ None }
-        ensures conditions { result.conditions ≡ conditions }
+    pub fn new(alloc: Global, conditions: &Conditions) -> Result<KeptRequests, Memory>
+        ensures none { IfOk result (λ table. (request : Request) → requests_at table request ≡ None) }
+        ensures names { IfOk result (λ table. table.names ≡ conditions.now) }
     {
-        KeptRequests {
-            conditions,
+        Ok(KeptRequests {
+            names: names_of(alloc, conditions)?,
             entries: HashMap::new(alloc),
-        }
+        })
     }
 
-    /// What is kept of a request, where the same is known to stand at each path that decided it.
-    pub fn as_known(&self, known: &Known, request: &RequestKey) -> Option<&KeptRequest>
-        ensures known { IfSome (option_copied result) (λ kept. All (IsAsKnown known.now) kept.looks.value) }
+    /// What is kept of a request.
+    pub fn get(&self, request: &RequestKey) -> Option<&KeptRequest>
+        ensures get { option_copied result ≡ requests_at self.now request.now }
         ensures right { AreRequests self.now
-            → IfSome (option_copied result) (λ kept. IsRequestOf self.now.conditions request.now kept) }
+            → IfSome (option_copied result) (λ kept. IsRequestOf self.now.names request.now kept) }
     {
-        match self.entries.get(request) {
-            None => None,
-            Some(kept) => {
-                if are_as_known(known, kept.looks.as_slice()) {
-                    Some(kept)
-                } else {
-                    None
-                }
-            }
-        }
+        self.entries.get(request)
     }
 
     /// Keeps the answer to a request.
     pub fn put(&mut self, request: RequestKey, kept: KeptRequest) -> Result<(), Memory>
-        ensures conditions { self.new.conditions ≡ self.old.conditions }
-        ensures right { IsRequestOf self.old.conditions request kept → AreRequests self.old → AreRequests self.new }
+        ensures names { self.new.names ≡ self.old.names }
+        ensures right { IsRequestOf self.old.names request kept → AreRequests self.old → AreRequests self.new }
     {
         insert(&mut self.entries, request, kept)
     }
+}
+
+fn names_of(alloc: Global, conditions: &Conditions) -> Result<Listed<Text>, Memory>
+    ensures { IfOk result (λ names. names ≡ conditions.now) }
+{
+    let mut names = Listed::new(alloc);
+    let mut at = 0;
+    while let Some(name) = conditions.at(at) {
+        names.push(name.copy(alloc)?)?;
+        at += 1;
+    }
+    Ok(names)
 }
 
 fn insert(

@@ -1,29 +1,30 @@
 //! The module to which a request leads, as it is kept or anew.
-ghost use Rattle.std.specs.Prelude.{◌≡◌, ◌≤◌, ◌+◌, true, List, Ok, IfOk, IfSome, All, ⊤};
+ghost use Rattle.std.specs.Prelude.{◌≡◌, ◌≤◌, ◌+◌, List, Ok, IfOk, IfSome};
+ghost use Rattle.tree_spec.specs.LookAskings.{look_at_each};
 ghost use Rattle.tree_spec.specs.LookLimits.{begun};
 ghost use Rattle.node_spec.specs.EsmResolve as spec;
 ghost use Rattle.node_resolve.specs.Places.{module_of};
 ghost use Rattle.node_resolve.specs.Responses.{node_fault, responded};
 ghost use Rattle.package_lookup.specs.Answered.{state, Answered};
-ghost use Rattle.kept_spec.specs.Certificates.{LookSeen, IsCertified};
-ghost use Rattle.kept_answers.specs.KnownLooks.{IsAsKnown, AreLooksAt};
+ghost use Rattle.package_lookup.specs.Responses.{looked};
+ghost use Rattle.kept_spec.specs.Certificates.{LookSeen};
+ghost use Rattle.kept_answers.specs.KnownLooks.{done, AreLooksAt, IsKept};
 ghost use Rattle.kept_answers.specs.Tables.{IsRequestOf, AreRequests};
 
 use crate::key::RequestKey;
-use crate::looks::{look_again, looks_of};
+use crate::looks::{LookedAt, look_again, looks_of};
 use crate::requests::{KeptRequest, KeptRequests};
 use condition_match::Conditions;
 use node_resolve::{Cause, Found, NodeFault, resolve};
 use package_lookup::{Known, LookupFault, Trail, some_sights};
-use primitives::{Memory, Steps, Text};
+use shared_types::{Listed, Memory, Steps, Text};
 use std::alloc::Global;
 use std::rc::Rc;
 use std::sync::ledger::Ledger;
 use tree_model::{Folder, Path};
 
 /// The module that a specifier gives in the file at a path: what `resolve` gives, without a step where it is kept and
-/// what decided it is known to stand there still. It is put into the next table. Both tables are those of these
-/// conditions.
+/// what decided it stands there still. It is put into the next table. Both tables are those of these conditions.
 pub fn request_answer<F: Folder, L: Ledger>(
     alloc: Global,
     known: &mut Known,
@@ -35,15 +36,15 @@ pub fn request_answer<F: Folder, L: Ledger>(
     steps: &mut Steps<L>,
     kept: &KeptRequests,
     next: &mut KeptRequests,
-) -> Result<Found, NodeFault>
-    requires conditions { kept.now.conditions ≡ conditions.now }
-    requires next { next.old.conditions ≡ conditions.now }
+) -> Result<Rc<Found>, NodeFault>
+    requires kept { kept.now.names ≡ conditions.now }
+    requires next { next.old.names ≡ conditions.now }
     requires right { IfSome (F.state folder.old).holds (λ tree. AreRequests kept.now) }
     ensures answered { Answered (state (F.state folder.old) known.old (begun trail.old))
         (spec.node conditions.now parent.now specifier.now)
-        (responded module_of result) (state (F.state folder.new) known.new trail.new) }
+        (responded (λ found. module_of found.value) result) (state (F.state folder.new) known.new trail.new) }
     ensures cost { steps.new ≤ steps.old + 1 }
-    ensures conditions { next.new.conditions ≡ next.old.conditions }
+    ensures names { next.new.names ≡ next.old.names }
     ensures right { IfSome (F.state folder.old).holds (λ tree. AreRequests next.old → AreRequests next.new) }
 {
     match key_of(alloc, parent, specifier) {
@@ -51,14 +52,13 @@ pub fn request_answer<F: Folder, L: Ledger>(
             trail.begin();
             Err(NodeFault::Memory)
         }
-        Ok(request) => match kept.as_known(known, &request) {
-            Some(found) => {
-                request_again(
-                    alloc, known, folder, trail, request, next, found,
-                )
-            }
+        Ok(request) => match kept.get(&request) {
             None => request_anew(
-                alloc, known, folder, trail, parent, specifier, request, conditions, steps, next,
+                alloc, known, folder, trail, parent, specifier, conditions, steps, next, request,
+            ),
+            Some(found) => request_again(
+                alloc, known, folder, trail, parent, specifier, conditions, steps, next, request,
+                found,
             ),
         },
     }
@@ -72,27 +72,36 @@ fn key_of(alloc: Global, parent: &Path, specifier: &str) -> Result<RequestKey, M
     Ok(RequestKey::new(parent, specifier))
 }
 
-// The kept module; its looks are counted again.
-fn request_again<F: Folder>(
+// The kept module, where the looks that decided it see the same; else the module anew.
+fn request_again<F: Folder, L: Ledger>(
     alloc: Global,
     known: &mut Known,
     folder: &mut F,
     trail: &mut Trail,
-    request: RequestKey,
+    parent: &Path,
+    specifier: &str,
+    conditions: &Conditions,
+    steps: &mut Steps<L>,
     next: &mut KeptRequests,
+    request: RequestKey,
     found: &KeptRequest,
-) -> Result<Found, NodeFault>
-    requires known { All (IsAsKnown known.old) found.now.looks.value }
-    requires right { IfSome (F.state folder.old).holds (λ tree. IsRequestOf next.old.conditions request found.now) }
+) -> Result<Rc<Found>, NodeFault>
+    requires request { request ≡ record { parent = parent.now; specifier = specifier.now } }
+    requires next { next.old.names ≡ conditions.now }
+    requires right { IfSome (F.state folder.old).holds (λ tree. IsRequestOf conditions.now request found.now) }
     ensures answered { Answered (state (F.state folder.old) known.old (begun trail.old))
-        (spec.node next.old.conditions request.parent request.specifier)
-        (responded module_of result) (state (F.state folder.new) known.new trail.new) }
-    ensures conditions { next.new.conditions ≡ next.old.conditions }
+        (spec.node conditions.now parent.now specifier.now)
+        (responded (λ found. module_of found.value) result) (state (F.state folder.new) known.new trail.new) }
+    ensures cost { steps.new ≤ steps.old + 1 }
+    ensures names { next.new.names ≡ next.old.names }
     ensures right { IfSome (F.state folder.old).holds (λ tree. AreRequests next.old → AreRequests next.new) }
 {
     match look_again(alloc, known, folder, trail, found.looks.as_slice()) {
         Err(fault) => Err(fault_of(fault)),
-        Ok(()) => match keep_again(alloc, request, next, found) {
+        Ok(false) => request_anew(
+            alloc, known, folder, trail, parent, specifier, conditions, steps, next, request,
+        ),
+        Ok(true) => match keep_again(next, request, found) {
             Err(_) => Err(NodeFault::Memory),
             Ok(own) => Ok(own),
         },
@@ -112,17 +121,16 @@ fn fault_of(fault: LookupFault) -> NodeFault
 }
 
 fn keep_again(
-    alloc: Global,
-    request: RequestKey,
     next: &mut KeptRequests,
+    request: RequestKey,
     found: &KeptRequest,
-) -> Result<Found, Memory>
-    ensures found { IfOk result (λ own. module_of own ≡ module_of found.now.found) }
-    ensures conditions { next.new.conditions ≡ next.old.conditions }
-    ensures right { IsRequestOf next.old.conditions request found.now → AreRequests next.old → AreRequests next.new }
+) -> Result<Rc<Found>, Memory>
+    ensures found { IfOk result (λ own. own.value ≡ found.now.found.value) }
+    ensures names { next.new.names ≡ next.old.names }
+    ensures right { IsRequestOf next.old.names request found.now → AreRequests next.old → AreRequests next.new }
 {
-    let own = found.found.copy(alloc)?;
-    next.put(request, found.copy(alloc)?)?;
+    let own = Rc::clone(&found.found)?;
+    next.put(request, found.copy()?)?;
     Ok(own)
 }
 
@@ -134,18 +142,18 @@ fn request_anew<F: Folder, L: Ledger>(
     trail: &mut Trail,
     parent: &Path,
     specifier: &str,
-    request: RequestKey,
     conditions: &Conditions,
     steps: &mut Steps<L>,
     next: &mut KeptRequests,
-) -> Result<Found, NodeFault>
+    request: RequestKey,
+) -> Result<Rc<Found>, NodeFault>
     requires request { request ≡ record { parent = parent.now; specifier = specifier.now } }
-    requires next { next.old.conditions ≡ conditions.now }
+    requires next { next.old.names ≡ conditions.now }
     ensures answered { Answered (state (F.state folder.old) known.old (begun trail.old))
         (spec.node conditions.now parent.now specifier.now)
-        (responded module_of result) (state (F.state folder.new) known.new trail.new) }
+        (responded (λ found. module_of found.value) result) (state (F.state folder.new) known.new trail.new) }
     ensures cost { steps.new ≤ steps.old + 1 }
-    ensures conditions { next.new.conditions ≡ next.old.conditions }
+    ensures names { next.new.names ≡ next.old.names }
     ensures right { IfSome (F.state folder.old).holds (λ tree. AreRequests next.old → AreRequests next.new) }
 {
     some_sights();
@@ -153,33 +161,51 @@ fn request_anew<F: Folder, L: Ledger>(
         alloc, known, folder, trail, parent, specifier, conditions, steps,
     ) {
         Err(fault) => Err(fault),
-        Ok(found) => match keep_request(alloc, known, trail, request, next, &found) {
-            Err(_) => Err(NodeFault::Memory),
-            Ok(()) => Ok(found),
+        Ok(found) => match keep_request(alloc, known, folder, trail, next, request, found) {
+            Err(fault) => Err(fault_of(fault)),
+            Ok(own) => Ok(own),
         },
     }
 }
 
 // Keeps a module with the looks of the present question.
-fn keep_request(
+fn keep_request<F: Folder>(
     alloc: Global,
-    known: &Known,
-    trail: &Trail,
-    request: RequestKey,
+    known: &mut Known,
+    folder: &mut F,
+    trail: &mut Trail,
     next: &mut KeptRequests,
-    found: &Found,
-) -> Result<(), Memory>
-    ensures conditions { next.new.conditions ≡ next.old.conditions }
-    ensures right { ((looks : List LookSeen) → AreLooksAt known.now trail.now.question looks
-        → IsCertified (spec.node next.old.conditions request.parent request.specifier) (Ok (module_of found.now)) looks)
+    request: RequestKey,
+    found: Found,
+) -> Result<Rc<Found>, LookupFault>
+    ensures answered { Answered (state (F.state folder.old) known.old trail.old) (look_at_each trail.old.question)
+        (looked done result) (state (F.state folder.new) known.new trail.new) }
+    ensures found { IfOk result (λ own. own.value ≡ found) }
+    ensures names { next.new.names ≡ next.old.names }
+    ensures right { ((looks : List LookSeen) → AreLooksAt known.new trail.old.question looks
+        → IsKept (spec.node next.old.names request.parent request.specifier) (Ok (module_of found)) looks)
         → AreRequests next.old → AreRequests next.new }
 {
-    match looks_of(alloc, known, trail.question())? {
-        None => Ok(()),
-        Some(looks) => {
-            let found = found.copy(alloc)?;
-            let looks = Rc::new(alloc, looks)?;
-            next.put(request, KeptRequest { found, looks })
-        }
-    }
+    let looks = looks_of(alloc, known, folder, trail)?;
+    let own = put_request(alloc, next, request, found, looks)?;
+    Ok(own)
+}
+
+fn put_request(
+    alloc: Global,
+    next: &mut KeptRequests,
+    request: RequestKey,
+    found: Found,
+    looks: Listed<LookedAt>,
+) -> Result<Rc<Found>, Memory>
+    ensures found { IfOk result (λ own. own.value ≡ found) }
+    ensures names { next.new.names ≡ next.old.names }
+    ensures right { IsKept (spec.node next.old.names request.parent request.specifier) (Ok (module_of found)) looks
+        → AreRequests next.old → AreRequests next.new }
+{
+    let found = Rc::new(alloc, found)?;
+    let looks = Rc::new(alloc, looks)?;
+    let own = Rc::clone(&found)?;
+    next.put(request, KeptRequest { found, looks })?;
+    Ok(own)
 }

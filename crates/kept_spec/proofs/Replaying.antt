@@ -91,7 +91,7 @@ module _ (limits : LookLimits) (sights : Sights) where
   small_by trail path after false false true heavy c = absurd (cc)
   small_by trail path after false false false heavy c = refl
 
-  counted_small : (trail : Trail) (path : List ℕ) (after : Trail)
+  pub counted_small : (trail : Trail) (path : List ℕ) (after : Trail)
       → counted limits trail path (sights path) ≡ Ok after → nat_lt limits.file (size_at (sights path)) ≡ false
   counted_small trail path after c =
       small_by trail path after (is_seen path trail.paths) (not (nat_lt (length trail.paths) limits.looks))
