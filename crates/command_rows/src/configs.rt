@@ -8,7 +8,7 @@ use project_config::{NoConfig, config_of};
 use row_texts::Said;
 use shared_types::Text;
 use std::alloc::Global;
-use trace_walk::Config;
+use trace_config::Config;
 
 fn push_conditions(conditions: &Conditions, said: &mut Said) {
     for index in 0..conditions.len() {

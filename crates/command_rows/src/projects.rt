@@ -3,7 +3,7 @@
 use project_file::{ProjectFault, print_project, read_project};
 use row_texts::Said;
 use std::alloc::Global;
-use trace_walk::Config;
+use trace_config::Config;
 
 fn push_printed(alloc: Global, config: &Config, said: &mut Said) {
     match print_project(alloc, config) {

@@ -1,5 +1,5 @@
 ghost use Rattle.std.specs.Prelude.{◌≡◌, MatchResult, Some, map, string_bytes};
-ghost use Rattle.words_read.specs.Shown.{options_of, shown};
+ghost use Rattle.words_parse.specs.Shown.{options_of, shown};
 ghost use Rattle.words_spec.specs.PlainWords.{linking, explaining, vendoring};
 ghost use Rattle.command_words.specs.Faults.{Explains, RefusesAs, RefusesOrder};
 ghost use Rattle.command_words.specs.Orders.{IsOrderOf, IsWanted, IsWantedOf, command_ordered};

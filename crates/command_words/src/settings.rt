@@ -1,6 +1,6 @@
 ghost use Rattle.std.specs.Prelude.{◌≡◌, MatchResult, option_map};
 ghost use Rattle.config_spec.specs.Words.{RefusesOptions, Sets, SetsBase, SetsConditions, SetsPage, no_settings};
-ghost use Rattle.words_read.specs.Shown.{options_of};
+ghost use Rattle.words_parse.specs.Shown.{options_of};
 ghost use Rattle.command_words.specs.Faults.{RefusesAs, IsBadBase, IsBadConditions, IsBadPath};
 ghost use Rattle.command_words.specs.Settings.{IsFilePage};
 

@@ -3,7 +3,7 @@ ghost use Rattle.std.specs.List.{list_any};
 ghost use Rattle.tree_spec.specs.Limits.{limit_number};
 ghost use Rattle.tree_spec.specs.Trees.{Tree};
 ghost use Rattle.tree_spec.specs.declared.LimitName.TheVariants.{Entries as EntryLimit};
-ghost use Rattle.trace_walk.specs.Configs.{with_entries};
+ghost use Rattle.trace_config.specs.Configs.{with_entries};
 ghost use Rattle.config_spec.specs.Projects.{without};
 ghost use Rattle.session_spec.specs.Edits.{linked, unlinked};
 ghost use Rattle.session_spec.specs.declared.EditFault.TheVariants.{NotLinked};

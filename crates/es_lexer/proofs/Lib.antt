@@ -1,6 +1,7 @@
 pub mod Passed
 pub mod NameBytes
 pub mod Tops
+pub mod NoBrackets
 pub mod Stack
 pub mod Calls
 pub mod Lists

@@ -1,5 +1,5 @@
 -- The table of the bytes of names, and passing over such bytes.
-use Rattle.std.proofs.Common.{◌≡◌, ◌≢◌, ◌<◌, ℕ, zero, suc, Bool, true, false, if◌then◌else◌, List, [], ◌∷◌, length, slice_index_or, refl, sym, ap, ◌∙◌, arith}
+use Rattle.std.proofs.Common.{◌≡◌, ◌≢◌, ◌<◌, ℕ, zero, suc, Bool, true, false, if◌then◌else◌, List, [], ◌∷◌, length, slice_index_or, refl, ap, ◌∙◌, arith}
 use Rattle.module_spec.specs.Characters.{is_name_byte, name_size, name_rest}
 use Rattle.es_lexer.specs.declared.names.TheConstants.{NAME_BYTES}
 use Rattle.es_lexer.proofs.Passed.{passed_none, passed_more}

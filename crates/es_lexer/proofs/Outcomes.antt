@@ -8,7 +8,7 @@ use Rattle.module_spec.specs.declared.token.LexFault.{LexFault}
 use Rattle.module_spec.specs.declared.token.Sort.{Sort}
 use Rattle.module_spec.specs.declared.token.Word.{Word}
 use Rattle.module_spec.specs.declared.token.Word.TheVariants.{Other}
-use Rattle.module_spec.specs.Sorts.{opens, closes, is_dot, is_for, is_await, sort_before_value}
+use Rattle.module_spec.specs.Sorts.{opens, closes, is_for, is_await}
 use Rattle.module_spec.specs.Spellings.{blank_rest, hashbang_rest}
 use Rattle.module_spec.specs.Tokens.{Piece, piece, Lexeme, lexeme, name_word, Next, next_from, next_at, unless_refused, refusal, is_template, depth, Skips, IsNext, Reaches, ReadsTokens, token_of, fault_of, most_brackets}
 use Rattle.module_spec.specs.Tokens.Next.{Ends, Faults, Gives}
@@ -19,7 +19,7 @@ use Rattle.module_spec.specs.Tokens.ReadsTokens.{all, fault}
 use Rattle.module_spec.proofs.Suffixes.{blank_shorter, next_shorter}
 use Rattle.es_lexer.specs.declared.state.Open.{Open}
 use Rattle.es_lexer.specs.declared.state.Last.{Last}
-use Rattle.es_lexer.specs.Open.{top_of, top_bracket, changed, slash_behind}
+use Rattle.es_lexer.specs.Open.{top_of, top_bracket, changed, names_property, slash_is_regex, sort_around}
 use Rattle.es_lexer.specs.State.{Follows, State, no_last}
 use Rattle.es_lexer.specs.Outcomes.{SomeTokens}
 use Rattle.es_lexer.proofs.Stack.{top, top_opener, state_after, state_at_start}
@@ -72,15 +72,14 @@ seen slash inner d (b ∷ rest) = seen_from inner d (b ∷ rest) (piece slash (i
 
 -- what is kept behind one more token
 abbrev next_word : Last → Sort → List ℕ → Word
-next_word last sort text = if last.property then Other else name_word sort text
+next_word last sort text = if names_property last then Other else name_word sort text
 
 abbrev followed : Last → Option Open → Sort → List ℕ → Last
 followed last t sort text = record {
+  sort = sort;
   word = next_word last sort text;
-  property = is_dot sort;
   for_head = is_for (next_word last sort text) || is_await (next_word last sort text) && is_for last.word;
-  before_value = sort_before_value sort (next_word last sort text);
-  slash = slash_behind sort (next_word last sort text) t;
+  around = sort_around sort (next_word last sort text) t;
 }
 
 -- ---- the whole text
@@ -104,7 +103,7 @@ read_by n text before rest last stack bytes l r further out i (sees_fault left k
 read_by n text before rest last stack bytes l r further out i (sees_token sort after e) =
     let t : Lexeme = lexeme sort bytes after in
     let new : Last = followed last (top_of stack) sort t.text in
-    let follows : Follows last new (top_of stack) sort t.text = record { word = refl; property = refl; for_head = refl; value = refl; slash = refl } in
+    let follows : Follows last new (top_of stack) sort t.text = record { same = refl; word = refl; for_head = refl; around = refl } in
     let later = state_after t before last new stack r.state r.few e follows in
     let m = next_shorter before rest after t i in
     further (t ∷ before) after new (changed (opens sort) (closes sort) last stack) (omega arith) (record { reached = go r.reached i; state = later.state; few = later.few })
@@ -114,9 +113,9 @@ read zero text before rest last stack l r = absurd (omega arith)
 read (suc n) text before rest last stack l r =
     let s = skipped (suc (length rest)) rest (omega arith) in
     let at = top before stack r.state.brackets in
-    let out : Next = next_at last.slash (top_bracket (top_of stack)) (depth before) s.end in
-    let comes : IsNext before rest out = next r.state.slash at.inner s.skips (ap (λ (k : Option Bracket). next_at last.slash k (depth before) s.end) (top_opener at.kept)) in
-    read_by n text before rest last stack s.end l r (λ b x y z m w. read n text b x y z m w) out comes (seen last.slash (top_bracket (top_of stack)) (depth before) s.end)
+    let out : Next = next_at (slash_is_regex last) (top_bracket (top_of stack)) (depth before) s.end in
+    let comes : IsNext before rest out = next r.state.slash at.inner s.skips (ap (λ (k : Option Bracket). next_at (slash_is_regex last) k (depth before) s.end) (top_opener at.kept)) in
+    read_by n text before rest last stack s.end l r (λ b x y z m w. read n text b x y z m w) out comes (seen (slash_is_regex last) (top_bracket (top_of stack)) (depth before) s.end)
 
 pub some_tokens : SomeTokens
 some_tokens text =

@@ -11,7 +11,7 @@ use Rattle.module_spec.specs.declared.token.Sort.TheVariants.{Name, Private, Num
 use Rattle.module_spec.specs.declared.token.Word.{Word}
 use Rattle.module_spec.specs.declared.token.Word.TheVariants.{Condition, For, Await, Of, Value, Statement, Other}
 use Rattle.module_spec.specs.declared.token.LexKind.TheVariants.{TooDeep}
-use Rattle.module_spec.specs.Sorts.{opens, closes, sort_before_value}
+use Rattle.module_spec.specs.Sorts.{opens, closes, is_dot, sort_before_value}
 use Rattle.module_spec.specs.Tokens.{Lexeme, Balanced, Innermost, depth, opener, plain_word, name_word, refusal, slash_after, slash_after_mark, slash_after_word, in_for, closed_round, closed_curly, most_brackets}
 use Rattle.module_spec.specs.Tokens.Balanced.{same, neither, closed}
 use Rattle.module_spec.specs.Tokens.Outside.{first, later}
@@ -21,7 +21,7 @@ use Rattle.module_spec.proofs.BracketLaws.{closes_innermost}
 use Rattle.es_lexer.specs.declared.state.Open.{Open}
 use Rattle.es_lexer.specs.declared.state.Open.TheVariants.{Round, Square, Curly, Template}
 use Rattle.es_lexer.specs.declared.state.Last.{Last}
-use Rattle.es_lexer.specs.Open.{bracket_of, top_of, top_bracket, opened, changed, is_control, is_block, is_for_head, slash_behind, slash_behind_mark, slash_behind_word}
+use Rattle.es_lexer.specs.Open.{bracket_of, top_of, top_bracket, opened, changed, is_control, is_block, is_for_head, slash_behind, slash_behind_mark, slash_behind_word, sort_around, mark_around, word_around}
 use Rattle.es_lexer.specs.State.{Facts, Follows, IsStack, State, no_last}
 use Rattle.es_lexer.specs.State.IsStack.{empty, inside}
 use Rattle.es_lexer.proofs.Tops.{top_of_more, front_of}
@@ -73,7 +73,7 @@ for_kept (a_top Square e facts) = rw e refl
 for_kept (a_top (Curly value) e facts) = rw e refl
 for_kept (a_top Template e facts) = rw e refl
 
-word_kept : {t : Option Open} {at : List Lexeme} (w : Word) → IsTop t at → slash_behind_word w t ≡ slash_after_word w at
+word_kept : {t : Option Open} {at : List Lexeme} (w : Word) → IsTop t at → slash_behind_word w (word_around w t) ≡ slash_after_word w at
 word_kept Condition i = refl
 word_kept For i = refl
 word_kept Await i = refl
@@ -82,7 +82,7 @@ word_kept Value i = refl
 word_kept Statement i = refl
 word_kept Other i = refl
 
-mark_kept : {t : Option Open} {at : List Lexeme} (mark : Mark) → IsTop t at → Allowed (Punctuator mark) at → slash_behind_mark mark t ≡ slash_after_mark mark at
+mark_kept : {t : Option Open} {at : List Lexeme} (mark : Mark) → IsTop t at → Allowed (Punctuator mark) at → slash_behind_mark mark (mark_around mark t) ≡ slash_after_mark mark at
 mark_kept OpenRound i a = refl
 mark_kept OpenSquare i a = refl
 mark_kept OpenCurly i a = refl
@@ -94,7 +94,7 @@ mark_kept Step i a = refl
 mark_kept Stop i a = refl
 mark_kept Operator i a = refl
 
-slash_kept : {t : Option Open} {at : List Lexeme} (sort : Sort) (w : Word) → IsTop t at → Allowed sort at → slash_behind sort w t ≡ slash_after sort w at
+slash_kept : {t : Option Open} {at : List Lexeme} (sort : Sort) (w : Word) → IsTop t at → Allowed sort at → slash_behind sort w (sort_around sort w t) ≡ slash_after sort w at
 slash_kept Name w i a = word_kept w i
 slash_kept Private w i a = refl
 slash_kept Number w i a = refl
@@ -238,10 +238,10 @@ state_after t before last next stack s l r f =
     record {
       state = record {
         word = words;
-        property = f.property;
+        property = ap (λ sort. is_dot sort) f.same;
         for_head = f.for_head ∙ rw (words, s.word) refl;
-        value = f.value ∙ ap (λ w. sort_before_value t.sort w) words;
-        slash = token inner.inner (f.slash ∙ (slash_kept t.sort next.word inner.kept may ∙ ap (λ w. slash_after t.sort w inner.at) words));
+        value = ap (λ sort. sort_before_value sort next.word) f.same ∙ ap (λ w. sort_before_value t.sort w) words;
+        slash = token inner.inner (ap (λ sort. slash_behind sort next.word next.around) f.same ∙ (ap (λ o. slash_behind t.sort next.word o) f.around ∙ (slash_kept t.sort next.word inner.kept may ∙ ap (λ w. slash_after t.sort w inner.at) words)));
         brackets = here.brackets;
         deep = here.deep;
       };

@@ -1,5 +1,5 @@
 -- What is kept of the tokens so far: of the last one, and of each open bracket.
-use Rattle.std.specs.Prelude.{◌-◌, Bool, true, false, not, ◌||◌, List, [], ◌∷◌, ◌++◌, Option, Some, None, length, take}
+use Rattle.std.specs.Prelude.{◌≡◌, ◌-◌, Bool, true, false, not, ◌||◌, List, [], ◌∷◌, ◌++◌, Option, Some, None, length, take}
 use Rattle.module_spec.specs.declared.token.Mark.{Mark}
 use Rattle.module_spec.specs.declared.token.Mark.TheVariants.{OpenRound, OpenSquare, OpenCurly, CloseRound}
 use Rattle.module_spec.specs.declared.token.Mark.TheVariants.{CloseSquare, CloseCurly, Dot, Step, Stop, Operator}
@@ -10,7 +10,7 @@ use Rattle.module_spec.specs.declared.token.Bracket as brackets
 use Rattle.module_spec.specs.declared.token.Bracket.TheVariants as bracket
 use Rattle.module_spec.specs.declared.token.Word.{Word}
 use Rattle.module_spec.specs.declared.token.Word.TheVariants.{Condition, For, Await, Of, Value, Statement, Other}
-use Rattle.module_spec.specs.Sorts.{is_condition}
+use Rattle.module_spec.specs.Sorts.{opens, closes, is_condition, is_dot, sort_before_value}
 use Rattle.es_lexer.specs.declared.state.Open.{Open}
 use Rattle.es_lexer.specs.declared.state.Open.TheVariants.{Round, Square, Curly, Template}
 use Rattle.es_lexer.specs.declared.state.Last.{Last}
@@ -30,11 +30,24 @@ abbrev pub top_bracket : Option Open → Option brackets.Bracket
 top_bracket None = None
 top_bracket (Some x) = Some (bracket_of x)
 
+-- a token that opens and closes nothing
+pub record NoBracket (sort : Sort) : Type 0 where
+  pub no_open : opens sort ≡ None
+  pub no_close : closes sort ≡ None
+
+-- ECMA-262, 13.3: a name that comes next is the name of a property
+abbrev pub names_property : Last → Bool
+names_property last = is_dot last.sort
+
+-- a `{` that comes next belongs to an expression
+abbrev pub brace_is_value : Last → Bool
+brace_is_value last = sort_before_value last.sort last.word
+
 -- what a new bracket keeps of what stands before it
 abbrev pub opened : brackets.Bracket → Last → Open
 opened bracket.Round last = Round (is_condition last.word || last.for_head) last.for_head
 opened bracket.Square last = Square
-opened bracket.Curly last = Curly last.before_value
+opened bracket.Curly last = Curly (brace_is_value last)
 opened bracket.Template last = Template
 
 abbrev pub changed : Option brackets.Bracket → Option brackets.Bracket → Last → List Open → List Open
@@ -65,35 +78,74 @@ is_for_head (Some Square) = false
 is_for_head (Some (Curly value)) = false
 is_for_head (Some Template) = false
 
-abbrev pub slash_behind_word : Word → Option Open → Bool
-slash_behind_word Condition top = false
-slash_behind_word For top = false
-slash_behind_word Await top = true
-slash_behind_word Of top = is_for_head top
-slash_behind_word Value top = true
-slash_behind_word Statement top = true
-slash_behind_word Other top = false
+-- what it says behind a token
+abbrev pub word_around : Word → Option Open → Bool
+word_around Condition top = false
+word_around For top = false
+word_around Await top = false
+word_around Of top = is_for_head top
+word_around Value top = false
+word_around Statement top = false
+word_around Other top = false
 
-abbrev pub slash_behind_mark : Mark → Option Open → Bool
-slash_behind_mark OpenRound top = true
-slash_behind_mark OpenSquare top = true
-slash_behind_mark OpenCurly top = true
-slash_behind_mark CloseRound top = is_control top
-slash_behind_mark CloseSquare top = false
-slash_behind_mark CloseCurly top = is_block top
-slash_behind_mark Dot top = true
-slash_behind_mark Step top = false
-slash_behind_mark Stop top = true
-slash_behind_mark Operator top = true
+abbrev pub mark_around : Mark → Option Open → Bool
+mark_around OpenRound top = false
+mark_around OpenSquare top = false
+mark_around OpenCurly top = false
+mark_around CloseRound top = is_control top
+mark_around CloseSquare top = false
+mark_around CloseCurly top = is_block top
+mark_around Dot top = false
+mark_around Step top = false
+mark_around Stop top = false
+mark_around Operator top = false
 
-abbrev pub slash_behind : Sort → Word → Option Open → Bool
-slash_behind Name w top = slash_behind_word w top
-slash_behind Private w top = false
-slash_behind Number w top = false
-slash_behind Text w top = false
-slash_behind TemplateWhole w top = false
-slash_behind TemplateHead w top = true
-slash_behind TemplateMiddle w top = true
-slash_behind TemplateTail w top = false
-slash_behind Regex w top = false
-slash_behind (Punctuator mark) w top = slash_behind_mark mark top
+abbrev pub sort_around : Sort → Word → Option Open → Bool
+sort_around Name w top = word_around w top
+sort_around Private w top = false
+sort_around Number w top = false
+sort_around Text w top = false
+sort_around TemplateWhole w top = false
+sort_around TemplateHead w top = false
+sort_around TemplateMiddle w top = false
+sort_around TemplateTail w top = false
+sort_around Regex w top = false
+sort_around (Punctuator mark) w top = mark_around mark top
+
+-- whether a `/` begins a regular expression, by what the innermost bracket says
+abbrev pub slash_behind_word : Word → Bool → Bool
+slash_behind_word Condition around = false
+slash_behind_word For around = false
+slash_behind_word Await around = true
+slash_behind_word Of around = around
+slash_behind_word Value around = true
+slash_behind_word Statement around = true
+slash_behind_word Other around = false
+
+abbrev pub slash_behind_mark : Mark → Bool → Bool
+slash_behind_mark OpenRound around = true
+slash_behind_mark OpenSquare around = true
+slash_behind_mark OpenCurly around = true
+slash_behind_mark CloseRound around = around
+slash_behind_mark CloseSquare around = false
+slash_behind_mark CloseCurly around = around
+slash_behind_mark Dot around = true
+slash_behind_mark Step around = false
+slash_behind_mark Stop around = true
+slash_behind_mark Operator around = true
+
+abbrev pub slash_behind : Sort → Word → Bool → Bool
+slash_behind Name w around = slash_behind_word w around
+slash_behind Private w around = false
+slash_behind Number w around = false
+slash_behind Text w around = false
+slash_behind TemplateWhole w around = false
+slash_behind TemplateHead w around = true
+slash_behind TemplateMiddle w around = true
+slash_behind TemplateTail w around = false
+slash_behind Regex w around = false
+slash_behind (Punctuator mark) w around = slash_behind_mark mark around
+
+-- a `/` that comes next begins a regular expression
+abbrev pub slash_is_regex : Last → Bool
+slash_is_regex last = slash_behind last.sort last.word last.around

@@ -6,28 +6,29 @@
 --     IsStack before stack      these brackets are open behind the tokens
 --     State before last stack      what is kept agrees with the tokens
 --     IsLexer text rest last stack room      what a reader keeps, which stands before the rest of a text
-use Rattle.std.specs.Prelude.{◌≡◌, ℕ, ◌≤◌, ◌||◌, ◌&&◌, true, false, if◌then◌else◌, List, [], ◌∷◌, ◌++◌}
+use Rattle.std.specs.Prelude.{◌≡◌, ℕ, ◌≤◌, ◌||◌, ◌&&◌, false, if◌then◌else◌, List, [], ◌∷◌, ◌++◌}
 use Rattle.std.specs.Prelude.{Option, Some, length}
 use Rattle.std.specs.Str.{IsUtf8}
 use Rattle.module_spec.specs.declared.token.Sort.{Sort}
+use Rattle.module_spec.specs.declared.token.Sort.TheVariants.{Punctuator}
+use Rattle.module_spec.specs.declared.token.Mark.TheVariants.{Stop}
 use Rattle.module_spec.specs.declared.token.Word.TheVariants.{Other}
-use Rattle.module_spec.specs.Sorts.{opens, is_dot, sort_before_value, is_for, is_await}
+use Rattle.module_spec.specs.Sorts.{opens, is_for, is_await}
 use Rattle.module_spec.specs.Tokens.{Lexeme, Balanced, Outside, Slash, Reaches, depth, plain_word, name_word}
 use Rattle.module_spec.specs.Tokens.{is_property, after_for, after_control, before_value, most_brackets}
 use Rattle.es_lexer.specs.declared.state.Open.{Open}
 use Rattle.es_lexer.specs.declared.state.Open.TheVariants.{Round, Square, Curly, Template}
 use Rattle.es_lexer.specs.declared.state.Last.{Last}
-use Rattle.es_lexer.specs.Open.{bracket_of, slash_behind}
+use Rattle.es_lexer.specs.Open.{bracket_of, names_property, brace_is_value, slash_is_regex, sort_around}
 
 abbrev pub no_last : Last
-no_last = record { word = Other; property = false; for_head = false; before_value = false; slash = true }
+no_last = record { sort = Punctuator Stop; word = Other; for_head = false; around = false }
 
 pub record Follows (last next : Last) (top : Option Open) (sort : Sort) (text : List ℕ) : Type 0 where
-  pub word : next.word ≡ (if last.property then Other else name_word sort text)
-  pub property : next.property ≡ is_dot sort
+  pub same : next.sort ≡ sort
+  pub word : next.word ≡ (if names_property last then Other else name_word sort text)
   pub for_head : next.for_head ≡ (is_for next.word || is_await next.word && is_for last.word)
-  pub value : next.before_value ≡ sort_before_value sort next.word
-  pub slash : next.slash ≡ slash_behind sort next.word top
+  pub around : next.around ≡ sort_around sort next.word top
 
 -- what is kept of an open bracket, by the tokens before it
 abbrev pub Facts : Open → List Lexeme → Type 0
@@ -45,10 +46,10 @@ pub data IsStack : List Lexeme → List Open → Type 0 where
 
 pub record State (before : List Lexeme) (last : Last) (stack : List Open) : Type 0 where
   pub word : last.word ≡ plain_word before
-  pub property : last.property ≡ is_property before
+  pub property : names_property last ≡ is_property before
   pub for_head : last.for_head ≡ after_for before
-  pub value : last.before_value ≡ before_value before
-  pub slash : Slash before last.slash
+  pub value : brace_is_value last ≡ before_value before
+  pub slash : Slash before (slash_is_regex last)
   pub brackets : IsStack before stack
   pub deep : length stack ≡ depth before
 

@@ -66,7 +66,7 @@ impl<'a> Lexer<'a> {
         let bytes = skip(self.rest);
         let top = top_of(self.stack.as_slice());
         let depth = self.stack.as_slice().len();
-        match look(self.last.slash, bracket_of(top), depth, bytes) {
+        match look(self.last, bracket_of(top), depth, bytes) {
             Err(kind) => Err(LexFault {
                 at: self.whole.len() - bytes.len(),
                 kind,
@@ -100,6 +100,6 @@ impl<'a> Lexer<'a> {
     pub fn before_property(&self) -> bool
         ensures { (before : List Lexeme) × Reaches self.now.0 before self.now.1 × (result ≡ is_property before) }
     {
-        self.last.property
+        self.last.names_property()
     }
 }

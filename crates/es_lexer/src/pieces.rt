@@ -2,11 +2,13 @@ ghost use Rattle.std.specs.Prelude.{◌≡◌, ◌∷◌, false, None, Some, Mat
 ghost use Rattle.module_spec.specs.Spellings.{punctuator, text_rest, template_rest, regex_body_rest};
 ghost use Rattle.module_spec.specs.Tokens.{piece, as_piece, slash_piece, private_piece};
 ghost use Rattle.module_spec.specs.Tokens.{punctuator_piece, regex_piece, first_part, later_part};
+ghost use Rattle.es_lexer.specs.Open.{slash_is_regex};
 
 use crate::characters::behind;
 use crate::names::{begins_name, name_rest};
 use crate::punctuators::punctuator;
 use crate::spellings::{begins_number, number_rest, regex_body_rest, template_rest, text_rest};
+use crate::state::Last;
 use module_spec::Sort;
 
 // Half of all tokens are punctuators, and a call would hand each over in memory.
@@ -103,12 +105,12 @@ fn slash_piece<'a>(regex: bool, bytes: &'a [u8], rest: &'a [u8]) -> Option<(Sort
     }
 }
 
-/// The token at the front and the bytes behind it, None where no token can be read. `regex` says that a `/` begins a
+/// The token at the front and the bytes behind it, None where no token can be read. `last` says whether a `/` begins a
 /// regular expression, and `part` that a `}` goes on with a template.
 #[tactic(auto, unfolding(module_spec::specs::Tokens::piece))]
-pub fn piece(regex: bool, part: bool, bytes: &[u8]) -> Option<(Sort, &[u8])>
-    ensures { MatchOption result (piece regex part bytes.now ≡ None)
-        (λ found. piece regex part bytes.now ≡ Some (found.0, found.1.now)) }
+pub fn piece(last: Last, part: bool, bytes: &[u8]) -> Option<(Sort, &[u8])>
+    ensures { MatchOption result (piece (slash_is_regex last) part bytes.now ≡ None)
+        (λ found. piece (slash_is_regex last) part bytes.now ≡ Some (found.0, found.1.now)) }
 {
     let Some((first, rest)) = bytes.split_first() else {
         return None;
@@ -126,7 +128,7 @@ pub fn piece(regex: bool, part: bool, bytes: &[u8]) -> Option<(Sort, &[u8])>
     } else if *first == b'}' && part {
         later_part(rest)
     } else if *first == b'/' {
-        slash_piece(regex, bytes, rest)
+        slash_piece(last.slash_is_regex(), bytes, rest)
     } else {
         punctuator_piece(bytes)
     }

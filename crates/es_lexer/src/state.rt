@@ -1,27 +1,30 @@
-ghost use Rattle.std.specs.Prelude.{◌≡◌, ◌≢◌, ◌<◌, ◌≤◌, ◌⊎◌, None, vec_len, vec_capacity};
+ghost use Rattle.std.specs.Prelude.{◌≡◌, ◌≢◌, ◌<◌, ◌≤◌, ◌⊎◌, None, vec_len, vec_capacity, if◌then◌else◌};
 ghost use Rattle.module_spec.specs.Sorts.{opens, closes};
+ghost use Rattle.module_spec.specs.Tokens.{name_word};
+ghost use Rattle.module_spec.specs.declared.token.Word.TheVariants.{Other};
 ghost use Rattle.es_lexer.specs.Open.{bracket_of, top_of, opened, changed, is_control, is_block};
 ghost use Rattle.es_lexer.specs.Open.{is_for_head, slash_behind_word, slash_behind_mark, slash_behind};
+ghost use Rattle.es_lexer.specs.Open.{names_property, brace_is_value, slash_is_regex};
+ghost use Rattle.es_lexer.specs.Open.{word_around, mark_around, sort_around};
 ghost use Rattle.es_lexer.specs.State.{Follows, no_last};
 
 use crate::sorts::{
-    closes, is_await, is_condition, is_dot, is_for, name_word, opens, sort_before_value,
+    closes, is_await, is_condition, is_dot, is_for, is_no_bracket, opens, sort_before_value,
 };
+use crate::words::word;
 use module_spec::{Bracket, Mark, Sort, Word};
 
-/// What the tokens so far say of the next one.
+/// What is kept of the last tokens. What few tokens ask of them is found when one asks.
 #[derive(Clone, Copy)]
 pub struct Last {
+    /// The last token, or where none stands before, a `;`, behind which all may stand that may begin a text.
+    pub sort: Sort,
     /// The last token as a word.
     pub word: Word,
-    /// A name that comes next is the name of a property.
-    pub property: bool,
     /// `for` or `for await` stands last.
     pub for_head: bool,
-    /// A `{` that comes next belongs to an expression.
-    pub before_value: bool,
-    /// A `/` that comes next begins a regular expression.
-    pub slash: bool,
+    /// What the innermost bracket that was open before the last token says of a `/` behind it.
+    pub around: bool,
 }
 
 /// An open bracket, and what stands before it.
@@ -36,16 +39,60 @@ pub enum Open {
 }
 
 impl Last {
-    /// What is said where no token stands before.
+    /// What is kept where no token stands before.
     pub fn none() -> Last
         ensures { result ≡ no_last }
     {
         Last {
+            sort: Sort::Punctuator(Mark::Stop),
             word: Word::Other,
-            property: false,
             for_head: false,
-            before_value: false,
-            slash: true,
+            around: false,
+        }
+    }
+
+    /// Whether a name that comes next is the name of a property.
+    pub fn names_property(self) -> bool
+        ensures { result ≡ names_property self }
+    {
+        is_dot(self.sort)
+    }
+
+    /// Whether a `{` that comes next belongs to an expression.
+    pub fn brace_is_value(self) -> bool
+        ensures { result ≡ brace_is_value self }
+    {
+        sort_before_value(self.sort, self.word)
+    }
+
+    /// Whether a `/` that comes next begins a regular expression.
+    pub fn slash_is_regex(self) -> bool
+        ensures { result ≡ slash_is_regex self }
+    {
+        slash_behind(self.sort, self.word, self.around)
+    }
+
+    // What a token says as a word: a property's name says nothing.
+    fn word_of(self, sort: Sort, text: &[u8]) -> Word
+        ensures { result ≡ (if names_property self then Other else name_word sort text.now) }
+    {
+        match sort {
+            Sort::Name => {
+                if self.names_property() {
+                    Word::Other
+                } else {
+                    word(text)
+                }
+            }
+            Sort::Private => Word::Other,
+            Sort::Number => Word::Other,
+            Sort::Text => Word::Other,
+            Sort::TemplateWhole => Word::Other,
+            Sort::TemplateHead => Word::Other,
+            Sort::TemplateMiddle => Word::Other,
+            Sort::TemplateTail => Word::Other,
+            Sort::Regex => Word::Other,
+            Sort::Punctuator(_) => Word::Other,
         }
     }
 
@@ -53,17 +100,12 @@ impl Last {
     pub fn follow(self, top: Option<Open>, sort: Sort, text: &[u8]) -> Last
         ensures { Follows self result top sort text.now }
     {
-        let word = if self.property {
-            Word::Other
-        } else {
-            name_word(sort, text)
-        };
+        let word = self.word_of(sort, text);
         Last {
+            sort,
             word,
-            property: is_dot(sort),
             for_head: is_for(word) || is_await(word) && is_for(self.word),
-            before_value: sort_before_value(sort, word),
-            slash: slash_behind(sort, word, top),
+            around: sort_around(sort, word, top),
         }
     }
 }
@@ -76,7 +118,7 @@ impl Open {
         match bracket {
             Bracket::Round => Open::Round(is_condition(last.word) || last.for_head, last.for_head),
             Bracket::Square => Open::Square,
-            Bracket::Curly => Open::Curly(last.before_value),
+            Bracket::Curly => Open::Curly(last.brace_is_value()),
             Bracket::Template => Open::Template,
         }
     }
@@ -136,30 +178,80 @@ fn is_for_head(top: Option<Open>) -> bool
     }
 }
 
-fn slash_behind_word(word: Word, top: Option<Open>) -> bool
-    ensures { result ≡ slash_behind_word word top }
+// What the innermost bracket says of a `/` behind a word, which asks it behind `of` alone.
+fn word_around(word: Word, top: Option<Open>) -> bool
+    ensures { result ≡ word_around word top }
+{
+    match word {
+        Word::Condition => false,
+        Word::For => false,
+        Word::Await => false,
+        Word::Of => is_for_head(top),
+        Word::Value => false,
+        Word::Statement => false,
+        Word::Other => false,
+    }
+}
+
+// The same of a bracket that a mark closes.
+fn mark_around(mark: Mark, top: Option<Open>) -> bool
+    ensures { result ≡ mark_around mark top }
+{
+    match mark {
+        Mark::OpenRound => false,
+        Mark::OpenSquare => false,
+        Mark::OpenCurly => false,
+        Mark::CloseRound => is_control(top),
+        Mark::CloseSquare => false,
+        Mark::CloseCurly => is_block(top),
+        Mark::Dot => false,
+        Mark::Step => false,
+        Mark::Stop => false,
+        Mark::Operator => false,
+    }
+}
+
+fn sort_around(sort: Sort, word: Word, top: Option<Open>) -> bool
+    ensures { result ≡ sort_around sort word top }
+{
+    match sort {
+        Sort::Name => word_around(word, top),
+        Sort::Private => false,
+        Sort::Number => false,
+        Sort::Text => false,
+        Sort::TemplateWhole => false,
+        Sort::TemplateHead => false,
+        Sort::TemplateMiddle => false,
+        Sort::TemplateTail => false,
+        Sort::Regex => false,
+        Sort::Punctuator(mark) => mark_around(mark, top),
+    }
+}
+
+fn slash_behind_word(word: Word, around: bool) -> bool
+    ensures { result ≡ slash_behind_word word around }
 {
     match word {
         Word::Condition => false,
         Word::For => false,
         Word::Await => true,
-        Word::Of => is_for_head(top),
+        Word::Of => around,
         Word::Value => true,
         Word::Statement => true,
         Word::Other => false,
     }
 }
 
-fn slash_behind_mark(mark: Mark, top: Option<Open>) -> bool
-    ensures { result ≡ slash_behind_mark mark top }
+fn slash_behind_mark(mark: Mark, around: bool) -> bool
+    ensures { result ≡ slash_behind_mark mark around }
 {
     match mark {
         Mark::OpenRound => true,
         Mark::OpenSquare => true,
         Mark::OpenCurly => true,
-        Mark::CloseRound => is_control(top),
+        Mark::CloseRound => around,
         Mark::CloseSquare => false,
-        Mark::CloseCurly => is_block(top),
+        Mark::CloseCurly => around,
         Mark::Dot => true,
         Mark::Step => false,
         Mark::Stop => true,
@@ -167,11 +259,11 @@ fn slash_behind_mark(mark: Mark, top: Option<Open>) -> bool
     }
 }
 
-fn slash_behind(sort: Sort, word: Word, top: Option<Open>) -> bool
-    ensures { result ≡ slash_behind sort word top }
+fn slash_behind(sort: Sort, word: Word, around: bool) -> bool
+    ensures { result ≡ slash_behind sort word around }
 {
     match sort {
-        Sort::Name => slash_behind_word(word, top),
+        Sort::Name => slash_behind_word(word, around),
         Sort::Private => false,
         Sort::Number => false,
         Sort::Text => false,
@@ -180,7 +272,7 @@ fn slash_behind(sort: Sort, word: Word, top: Option<Open>) -> bool
         Sort::TemplateMiddle => true,
         Sort::TemplateTail => false,
         Sort::Regex => false,
-        Sort::Punctuator(mark) => slash_behind_mark(mark, top),
+        Sort::Punctuator(mark) => slash_behind_mark(mark, around),
     }
 }
 
@@ -190,6 +282,9 @@ pub(crate) fn change(stack: &mut Vec<Open>, last: Last, sort: Sort)
     ensures items { stack.new.items ≡ changed (opens sort) (closes sort) last stack.old.items }
     ensures capacity { vec_capacity stack.old ≤ vec_capacity stack.new }
 {
+    if is_no_bracket(sort) {
+        return;
+    }
     match (opens(sort), closes(sort)) {
         (Some(_), Some(_)) => {}
         (Some(bracket), None) => {

@@ -16,7 +16,7 @@ use Rattle.map_print.specs.LeastSizes.{pair_least, scope_least, map_least}
 use Rattle.map_print.specs.PrintedLists.{members_by, value_text, mappings_value, pairs_members, scopes_members, layout_value}
 use Rattle.map_print.specs.declared.print.Values.{Values}
 use Rattle.map_print.specs.declared.print.Values.TheVariants.{Addresses, Digests}
-use Rattle.map_print.proofs.Appends.{part_before}
+use Rattle.map_print.proofs.PrintedParts.{part_before}
 
 some_byte : (b : ℕ) → 1 ≤ length (escaped_byte b)
 some_byte b =

@@ -1,4 +1,4 @@
-pub mod Appends
+mod PrintedParts
 mod Listing
 mod LeastSizes
 mod Limits

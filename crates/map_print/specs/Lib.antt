@@ -1,5 +1,4 @@
 pub mod PrintedLists
 pub mod Printed
-pub mod Appending
 pub mod LeastSizes
 pub mod PlainRests

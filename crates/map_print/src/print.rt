@@ -12,7 +12,7 @@ ghost use Rattle.map_print.specs.PlainRests.{is_plain_rest};
 ghost use Rattle.map_print.specs.Printed.{IsPrinted};
 ghost use Rattle.map_print.specs.PrintedLists.{value_text, mappings_value, scopes_members};
 ghost use Rattle.map_print.specs.PrintedLists.{layout_value, pairs_members};
-ghost use Rattle.map_print.specs.Appending.{Appends};
+ghost use Rattle.ordered_json.specs.Appending.{Appends};
 
 use crate::least_size::is_far_too_large;
 use crate::map_folder::MapFolder;

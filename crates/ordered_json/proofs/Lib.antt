@@ -1,3 +1,4 @@
+pub mod Appends
 pub mod EscapesLemmas
 pub mod GrammarLemmas
 pub mod IsJsonLemmas

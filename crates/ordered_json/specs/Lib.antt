@@ -5,3 +5,4 @@ pub mod Scanned
 pub mod Outcomes
 pub mod Pairs
 pub mod Lent
+pub mod Appending

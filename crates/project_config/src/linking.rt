@@ -11,7 +11,7 @@ use condition_match::Conditions;
 use config_spec::ConfigFault;
 use shared_types::{Listed, Text};
 use std::alloc::Global;
-use trace_walk::Config;
+use trace_config::Config;
 use tree_model::Path;
 use tree_spec::MOST_ENTRIES;
 use web_url::Base;

@@ -4,7 +4,7 @@ ghost use Rattle.config_spec.specs.Projects as spec;
 use crate::defaults::{first_conditions, first_page};
 use shared_types::{Listed, Memory, Text};
 use std::alloc::{AllocError, Global};
-use trace_walk::Config;
+use trace_config::Config;
 use web_url::{Base, BaseFault};
 
 /// The base of a measure.

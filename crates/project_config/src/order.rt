@@ -10,7 +10,7 @@ use crate::unlinking::unlinked;
 use command_words::Order;
 use config_spec::{ConfigFault, ProjectFault};
 use std::alloc::Global;
-use trace_walk::Config;
+use trace_config::Config;
 
 /// The config of an order over the project that was found, if one was.
 pub fn config_of(alloc: Global, order: Order<'_>, found: Option<Config>) -> Result<Config, NoConfig>

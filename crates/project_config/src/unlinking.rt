@@ -8,7 +8,7 @@ use crate::fault::NoConfig;
 use config_spec::ConfigFault;
 use shared_types::{Memory, Text};
 use std::alloc::Global;
-use trace_walk::Config;
+use trace_config::Config;
 
 /// The config of `unlink`: this one, with the entries of the words taken out one after another.
 pub(crate) fn unlinked(alloc: Global, words: &[String], config: Config) -> Result<Config, NoConfig>

@@ -7,8 +7,8 @@ use Rattle.std.proofs.lemmas.Option.{slice_get_within, get_or_from_slice_get}
 use Rattle.json_spec.specs.PrintedString.{quoted}
 use Rattle.json_spec.specs.PrintedValue.{line, printed, printed_items}
 use Rattle.json_spec.specs.Value.{a_list}
-use Rattle.map_print.proofs.Appends.{piece, next, as_text, from_nothing, Completes}
-use Rattle.map_print.specs.Appending.{Appends}
+use Rattle.ordered_json.proofs.Appends.{piece, next, as_text, from_nothing, Completes}
+use Rattle.ordered_json.specs.Appending.{Appends}
 use Rattle.trace_spec.specs.Modules.{Config}
 use Rattle.project_spec.proofs.ReadBack.{projects_read_back}
 use Rattle.project_spec.specs.ProjectFiles.{ReadsProject, project_text, project_value, strings}

@@ -3,7 +3,7 @@ ghost use Rattle.node_spec.specs.Conditions.{AreConditions};
 ghost use Rattle.json_spec.specs.PrintedString.{quoted};
 ghost use Rattle.json_spec.specs.PrintedValue.{line, printed, printed_items};
 ghost use Rattle.json_spec.specs.Value.{a_list};
-ghost use Rattle.map_print.specs.Appending.{Appends};
+ghost use Rattle.ordered_json.specs.Appending.{Appends};
 ghost use Rattle.project_spec.specs.ProjectFiles.{ReadsProject, project_text, project_value, strings};
 ghost use Rattle.project_file.specs.Parts.{CanBeReadBack};
 
@@ -11,7 +11,7 @@ use condition_match::Conditions;
 use ordered_json::print_text;
 use shared_types::{Listed, Memory, Text};
 use std::alloc::Global;
-use trace_walk::Config;
+use trace_config::Config;
 
 /// The bytes of a config's file: one object, two spaces a level, each member, condition and entry on a line of its own.
 pub fn print_project(alloc: Global, config: &Config) -> Result<Vec<u8>, Memory>

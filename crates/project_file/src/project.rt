@@ -6,7 +6,7 @@ ghost use Rattle.tree_spec.specs.Limits.{limit_number};
 use condition_match::Conditions;
 use shared_types::{Listed, Text};
 use std::marker::Model;
-use trace_walk::Config;
+use trace_config::Config;
 use tree_model::Path;
 use tree_spec::MOST_ENTRIES;
 use web_url::Base;

@@ -9,7 +9,7 @@ use crate::project::Project;
 use ordered_json::{JsonFault, Value, read};
 use shared_types::Memory;
 use std::alloc::Global;
-use trace_walk::Config;
+use trace_config::Config;
 use tree_spec::LimitName;
 
 /// The config of a file's bytes.

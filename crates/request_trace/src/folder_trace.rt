@@ -10,8 +10,9 @@ use package_lookup::{Known, Trail};
 use shared_types::Steps;
 use std::alloc::Global;
 use std::sync::ledger::Ledger;
+use trace_config::Config;
 use trace_spec::TraceFault;
-use trace_walk::{Config, Tables, walk};
+use trace_walk::{Tables, walk};
 use tree_model::Folder;
 
 /// The trace of a folder and a config, or its first refusal. No path is looked at that is known, none twice, and none

@@ -11,7 +11,7 @@ mod traces;
 mod vertices;
 
 pub use folder_trace::trace;
+pub use trace_config::Config;
 pub use trace_graph::{ModuleView, Slot, View};
 pub use trace_spec::TraceFault;
-pub use trace_walk::Config;
 pub use traces::Trace;

@@ -4,6 +4,5 @@ pub mod Kinds
 pub mod Walking
 pub mod Refusing
 pub mod Putting
-pub mod Configs
 pub mod Answering
 pub mod Walked

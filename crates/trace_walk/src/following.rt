@@ -12,13 +12,13 @@ ghost use Rattle.trace_walk.specs.Walking.{IsReferrer, AllNamed, AreBeside, IsGi
 ghost use Rattle.trace_walk.specs.Shown.{before_of, done};
 
 use crate::answerer::{Answerer, NodeAnswer};
-use crate::config::Config;
 use crate::module::Module;
 use crate::referrer::Referrer;
 use crate::refusals::refusal;
 use crate::tables::Tables;
 use shared_types::Text;
 use std::alloc::Global;
+use trace_config::Config;
 use trace_spec::{AskCause, TraceFault};
 use tree_spec::{LimitName, MOST_REQUESTS, MOST_SPECIFIER_BYTES};
 use web_url::{AskFault, Asked, ask};

@@ -3,7 +3,6 @@
 #![tactic(auto)]
 
 mod answerer;
-mod config;
 mod following;
 mod module;
 mod names;
@@ -15,7 +14,6 @@ mod tables;
 mod visits;
 
 pub use answerer::{Answerer, NodeAnswer};
-pub use config::Config;
 pub use module::Module;
 pub use module_sources::{NoSource, Source};
 pub use spelling::Spelling;

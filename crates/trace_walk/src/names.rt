@@ -5,9 +5,9 @@ ghost use Rattle.url_spec.specs.WebNames.{web};
 ghost use Rattle.trace_spec.specs.Modules.{served_name};
 ghost use Rattle.trace_walk.specs.Walking.{IsUnserved};
 
-use crate::config::Config;
 use crate::refusals::unservable;
 use std::alloc::Global;
+use trace_config::Config;
 use trace_spec::TraceFault;
 use tree_model::Path;
 use web_url::{Suffix, WebFault, WebUrl, ends_in_slash, web_of};

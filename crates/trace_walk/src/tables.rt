@@ -14,7 +14,6 @@ ghost use Rattle.trace_walk.specs.Putting.{IsKnown, PutsNeed, Puts};
 ghost use Rattle.trace_walk.specs.Walking.{IsReferrer, AllNamed, AreBeside, AreEmpty, IsNamed, IsGiven};
 ghost use Rattle.trace_walk.specs.Shown.{before_of, done};
 
-use crate::config::Config;
 use crate::module::Module;
 use crate::names::{is_folder_url, served_url};
 use crate::referrer::Referrer;
@@ -25,6 +24,7 @@ use module_sources::Source;
 use need_table::{Added, Need, NeedFault, Needs};
 use shared_types::{Memory, Text};
 use std::alloc::Global;
+use trace_config::Config;
 use trace_spec::{AskCause, TraceFault};
 use tree_spec::{LimitName, MOST_MODULES};
 use web_url::WebUrl;

@@ -15,7 +15,6 @@ ghost use Rattle.trace_walk.specs.Walked.{IsWalked};
 ghost use Rattle.trace_walk.specs.Shown.{before_of, done, traced_of, specifiers_of};
 
 use crate::answerer::Answerer;
-use crate::config::Config;
 use crate::following::follow;
 use crate::module::Module;
 use crate::names::served_url;
@@ -27,6 +26,7 @@ use module_sources::Source;
 use shared_types::{Memory, Text};
 use std::alloc::Global;
 use std::rc::Rc;
+use trace_config::Config;
 use trace_spec::TraceFault;
 use web_url::Suffix;
 

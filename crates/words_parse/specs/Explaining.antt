@@ -3,7 +3,7 @@
 --         aren't plain
 use Rattle.std.specs.Prelude.{ℕ, List, ⊤}
 use Rattle.words_clap_spec.specs.Refusing.{IsRefused, IsTaken}
-use Rattle.words_read.specs.Shown.{AsksNothing}
+use Rattle.words_parse.specs.Shown.{AsksNothing}
 use Rattle.words_parse.specs.declared.WordsFault.{WordsFault}
 use Rattle.words_parse.specs.declared.WordsFault.TheVariants.{Told, NotPlain, Memory}
 

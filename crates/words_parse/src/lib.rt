@@ -1,21 +1,33 @@
 //! What the words of a command line ask for, or what is to be said of them.
 //!
-//! `clap` judges the words, and `words_read` gives the values, which are those that `clap` holds.
+//! The kit's `clap` judges the words: `matches` gives what it makes of them, and its builder is called in `program` and
+//! nowhere else. `read` gives the values, which are those that `clap` holds; it borrows from the words and takes no
+//! memory.
 #![tactic(auto)]
+
+mod command;
+mod help;
+mod link;
+mod matching;
+mod number;
+mod program;
+mod reader;
+mod spelling;
+mod values;
 
 ghost use Rattle.std.specs.Prelude.{◌≡◌, ◌≢◌, MatchResult, map, string_bytes};
 ghost use Rattle.clap.specs.Words.{kind_of};
 ghost use Rattle.words_parse.specs.Explaining.{Explains};
-ghost use Rattle.words_read.specs.Shown.{shown};
+ghost use Rattle.words_parse.specs.Shown.{shown};
 ghost use Rattle.words_spec.specs.PlainWords.{Asked, Asks};
 
 use clap::Error;
 use clap::error::ErrorKind;
+pub use command::{Command, LinkValues};
+pub use matching::matches;
+pub use reader::read;
 use std::alloc::Global;
 use std::fmt::Write;
-use words_clap::matches;
-use words_read::read;
-pub use words_read::{Command, LinkValues};
 
 /// Why words ask for nothing.
 #[derive(Debug, Drop)]

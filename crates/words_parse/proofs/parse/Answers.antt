@@ -2,7 +2,7 @@ use Rattle.std.proofs.Common.{◌≡◌, ◌∙◌, ◌⊎◌, inl, inr, List, [
 use Rattle.std.specs.Prelude.{string_bytes}
 use Rattle.clap.specs.Kinds.{IsAmong}
 use Rattle.clap.specs.Words.{kind_of}
-use Rattle.words_read.specs.Shown.{shown}
+use Rattle.words_parse.specs.Shown.{shown}
 use Rattle.words_spec.proofs.PlainIsRead.{one_asked}
 use Rattle.words_parse.proofs.parse.Goals as goal
 

@@ -1,6 +1,6 @@
 use Rattle.std.proofs.Common.{map}
 use Rattle.std.specs.Prelude.{string_bytes}
-use Rattle.words_read.specs.Shown.{shown}
+use Rattle.words_parse.specs.Shown.{shown}
 use Rattle.command_words.proofs.Orders.{of_words}
 use Rattle.command_words.proofs.order.order_of.Goals as goal
 

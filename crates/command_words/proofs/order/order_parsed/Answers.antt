@@ -1,5 +1,5 @@
 use Rattle.std.proofs.Common.{ap, refl}
-use Rattle.words_read.specs.Shown.{shown}
+use Rattle.words_parse.specs.Shown.{shown}
 use Rattle.command_words.proofs.Orders.{same_asked}
 use Rattle.config_spec.proofs.Options.{no_settings_set}
 use Rattle.command_words.proofs.order.order_parsed.Goals as goal

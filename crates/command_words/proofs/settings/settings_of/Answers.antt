@@ -1,5 +1,5 @@
 use Rattle.config_spec.specs.Words.{RefusesOptions, Sets}
-use Rattle.words_read.specs.Shown.{options_of}
+use Rattle.words_parse.specs.Shown.{options_of}
 use Rattle.command_words.specs.Faults.{RefusesAs}
 use Rattle.command_words.proofs.Orders.{set_is_file}
 use Rattle.command_words.proofs.Refusals.{base_refused, conditions_refused, handed_on, page_refused}

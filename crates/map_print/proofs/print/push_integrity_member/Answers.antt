@@ -4,7 +4,7 @@ use Rattle.std.proofs.lemmas.Result.{on_ok_weaker}
 use Rattle.json_spec.specs.Value.{a_text}
 use Rattle.map_print.specs.PrintedLists.{value_text}
 use Rattle.map_print.specs.declared.print.Values.TheVariants.{Digests}
-use Rattle.map_print.proofs.Appends.{part}
+use Rattle.map_print.proofs.PrintedParts.{part}
 use Rattle.map_print.proofs.print.push_integrity_member.Goals as goal
 
 pub returns : goal.returns

@@ -1,5 +1,5 @@
 use Rattle.json_spec.specs.PrintedValue.{line}
-use Rattle.map_print.specs.Appending.{Appends}
+use Rattle.ordered_json.specs.Appending.{Appends}
 use Rattle.map_print.proofs.print.push_line.Given as goal
 
 abbrev pub invariant-loop : goal.invariant-loop

@@ -1,6 +1,6 @@
 use Rattle.std.proofs.Common.{rules, ap, ℕ, List, ◌++◌, ◌≡◌, OnOk}
 use Rattle.std.proofs.lemmas.Result.{on_ok_weaker}
-use Rattle.map_print.proofs.Appends.{whole_map}
+use Rattle.map_print.proofs.PrintedParts.{whole_map}
 use Rattle.map_print.proofs.print.push_map.Goals as goal
 
 pub returns : goal.returns

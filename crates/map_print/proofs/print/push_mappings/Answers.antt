@@ -3,7 +3,7 @@ use Rattle.std.proofs.Math.Numerals.{add-one}
 use Rattle.std.proofs.lemmas.Result.{on_ok_weaker}
 use Rattle.json_spec.specs.Value.{a_text}
 use Rattle.map_print.specs.PrintedLists.{value_text}
-use Rattle.map_print.proofs.Appends.{object}
+use Rattle.map_print.proofs.PrintedParts.{object}
 use Rattle.map_print.proofs.print.push_mappings.Goals as goal
 
 pub returns : goal.returns

@@ -1,6 +1,6 @@
 use Rattle.json_spec.specs.Value.{a_text}
 use Rattle.map_print.specs.PrintedLists.{value_text}
-use Rattle.map_print.proofs.Appends.{all_members}
+use Rattle.map_print.proofs.PrintedParts.{all_members}
 use Rattle.map_print.proofs.print.push_more_pairs.Goals as goal
 
 pub returns : goal.returns

@@ -1,7 +1,7 @@
 use Rattle.std.proofs.Common.{drop}
 use Rattle.json_spec.specs.PrintedValue.{printed_members}
 use Rattle.map_print.specs.PrintedLists.{pairs_members}
-use Rattle.map_print.proofs.Appends.{Completes}
+use Rattle.ordered_json.proofs.Appends.{Completes}
 use Rattle.map_print.proofs.print.push_more_pairs.Given as goal
 
 abbrev pub invariant-loop-pair : goal.invariant-loop-pair

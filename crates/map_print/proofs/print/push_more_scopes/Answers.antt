@@ -1,7 +1,7 @@
 use Rattle.layout_spec.specs.ShortForms.{short}
 use Rattle.map_print.specs.PrintedLists.{mappings_value}
 use Rattle.map_print.specs.declared.print.Values.TheVariants.{Addresses}
-use Rattle.map_print.proofs.Appends.{all_members}
+use Rattle.map_print.proofs.PrintedParts.{all_members}
 use Rattle.map_print.proofs.print.push_more_scopes.Goals as goal
 
 pub returns : goal.returns

@@ -1,7 +1,7 @@
 use Rattle.std.proofs.Common.{drop}
 use Rattle.json_spec.specs.PrintedValue.{printed_members}
 use Rattle.map_print.specs.PrintedLists.{scopes_members}
-use Rattle.map_print.proofs.Appends.{Completes}
+use Rattle.ordered_json.proofs.Appends.{Completes}
 use Rattle.map_print.proofs.print.push_more_scopes.Given as goal
 
 abbrev pub invariant-loop-scope : goal.invariant-loop-scope

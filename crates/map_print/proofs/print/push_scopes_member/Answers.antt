@@ -4,7 +4,7 @@ use Rattle.std.proofs.lemmas.Result.{on_ok_weaker}
 use Rattle.layout_spec.specs.ShortForms.{short}
 use Rattle.map_print.specs.PrintedLists.{mappings_value}
 use Rattle.map_print.specs.declared.print.Values.TheVariants.{Addresses}
-use Rattle.map_print.proofs.Appends.{part}
+use Rattle.map_print.proofs.PrintedParts.{part}
 use Rattle.map_print.proofs.print.push_scopes_member.Goals as goal
 
 pub returns : goal.returns

@@ -1,4 +1,4 @@
-use Rattle.map_print.proofs.Appends.{from_nothing}
+use Rattle.ordered_json.proofs.Appends.{from_nothing}
 use Rattle.map_print.proofs.print.text_of.Goals as goal
 
 pub returns : goal.returns

@@ -1,6 +1,6 @@
 use Rattle.std.proofs.Common.{All, IsUtf8, take, drop}
 use Rattle.json_spec.specs.PrintedValue.{printed_items}
-use Rattle.map_print.proofs.Appends.{Completes}
+use Rattle.ordered_json.proofs.Appends.{Completes}
 use Rattle.project_spec.specs.ProjectFiles.{strings}
 use Rattle.project_file.proofs.printing.push_more_strings.Given as goal
 

@@ -1,0 +1,6 @@
+//! What to generate for, as the walk of a trace and the project's file take it.
+#![tactic(auto)]
+
+mod config;
+
+pub use config::Config;
