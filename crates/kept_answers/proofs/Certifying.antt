@@ -179,3 +179,245 @@ module _ {X : Type 0} (asking : LookAsking X) (value : X) (seen : List LookSeen)
       (is_front (fails failing) after to tree sights holds sees)
       ((told_to (fails failing) after to tree holds).says sights sees))
       (within_front (fails failing) after to)
+
+  -- where one of them sees otherwise
+  module _ (middle : State) (to : LooksTo before seen (given tt) middle) where
+    same_end : (tree : Tree) (sights : Sights) → before.folder.holds ≡ Some tree → Sees tree before.known sights
+        → evaluated (limited look_limits sights) (begun middle.trail) asking
+        ≡ evaluated (limited look_limits sights) (begun before.trail) asking
+    same_end tree sights holds sees =
+        front_goes_before look_limits sights before.trail middle.trail asking (front (given tt) middle to)
+        (is_front (given tt) middle to tree sights holds sees)
+        ((told_to (given tt) middle to tree holds).says sights sees)
+
+    first_looks_of : (path : List ℕ) → IsLookOf (afresh before) (look_at_each (front (given tt) middle to)) path
+        → IsLookOf (afresh before) asking path
+    first_looks_of path is =
+        if_told {P = λ tree. (sights : Sights) → Sees tree before.known sights → Contains (looks sights asking) path}
+        before.folder.holds
+        (λ tree holds sights sees.
+        All-contains (Contains (looks sights asking)) (looks sights (look_at_each (front (given tt) middle to))) path
+        (within_front (given tt) middle to tree sights holds sees)
+        (told_so {P = λ t. (s : Sights) → Sees t before.known s
+        → Contains (looks s (look_at_each (front (given tt) middle to))) path}
+        before.folder.holds tree holds is sights sees))
+
+    looks_behind : (path : List ℕ) → IsLookOf (afresh middle) asking path → IsLookOf (afresh before) asking path
+    looks_behind path is =
+        if_told {P = λ tree. (sights : Sights) → Sees tree before.known sights → Contains (looks sights asking) path}
+        before.folder.holds
+        (λ tree holds sights sees.
+        told_so {P = λ t. (s : Sights) → Sees t middle.known s → Contains (looks s asking) path}
+        middle.folder.holds tree (to.answered.folder.tree ∙ holds) is sights
+        (sees_still tree before.known middle.known sights (told_to (given tt) middle to tree holds).same sees))
+
+    tells_behind : (response : Response X) (after : State) → Answered (afresh middle) asking response after
+        → (tree : Tree) → before.folder.holds ≡ Some tree → Tells tree (afresh before) asking response after
+    tells_behind response after rest tree holds =
+        let here = told_to (given tt) middle to tree holds in
+        let later = told_so {P = λ t. Tells t (afresh middle) asking response after} middle.folder.holds tree
+        (to.answered.folder.tree ∙ holds) rest.tells in
+        record {
+          says = λ sights sees. subst (λ end. Comes end response after.trail) (same_end tree sights holds sees)
+              (later.says sights (sees_still tree before.known middle.known sights here.same sees));
+          same = λ path. later.same path ∙ here.same path;
+        }
+
+    pub behind_looks : (response : Response X) (after : State) → Answered (afresh middle) asking response after
+        → Answered (afresh before) asking response after
+    behind_looks response after rest = record {
+      tells = if_told {P = λ tree. Tells tree (afresh before) asking response after} before.folder.holds
+          (tells_behind response after rest);
+      known = grows_twice before.known middle.known after.known to.answered.known rest.known;
+      trail = lengthens_twice (begun before.trail) middle.trail after.trail to.answered.trail
+          (record { more = rest.trail.more; paths = rest.trail.paths; size = rest.trail.size });
+      covered = λ finished covers. rest.covered finished (to.answered.covered (λ e. cc) covers);
+      asked = (learns_then (afresh before) (afresh middle) after (failed_given ≡ fails no_memory)
+          (response ≡ fails no_memory) (IsLookOf (afresh before) (look_at_each (front (given tt) middle to)))
+          (IsLookOf (afresh middle) asking) (IsLookOf (afresh before) asking) (λ e. cc) first_looks_of looks_behind
+          (learns_at (afresh before) middle (begun before.trail) (begun middle.trail) (failed_given ≡ fails no_memory)
+          (IsLookOf (afresh before) (look_at_each (front (given tt) middle to)))
+          (learns_by (afresh before) middle (look_at_each (front (given tt) middle to)) (given tt) to.answered))
+          (learns_by (afresh middle) after asking response rest)).asked;
+      folder = looks_then {P = failed_given ≡ fails not_read} {Q = response ≡ fails not_read} before.folder
+          middle.folder after.folder (λ e. cc) to.answered.folder rest.folder;
+      possible = rest.possible;
+    }
+      where
+        abbrev failed_given : Response (Unit {0})
+        failed_given = given tt
+
+-- ---- an answer behind looks at the paths of its question
+
+module _ {X : Type 0} (asking : LookAsking X) (value : X) (before middle after : State)
+    (a : Answered (afresh before) asking (given value) middle) where
+  told_first : (tree : Tree) → before.folder.holds ≡ Some tree → Tells tree (afresh before) asking (given value) middle
+  told_first tree holds =
+      told_so {P = λ t. Tells t (afresh before) asking (given value) middle} before.folder.holds tree holds a.tells
+
+  module _ (response : Response (Unit {0})) (b : Answered middle (look_at_each middle.trail.question) response after) where
+    told_last : (tree : Tree) → before.folder.holds ≡ Some tree
+        → Tells tree middle (look_at_each middle.trail.question) response after
+    told_last tree holds =
+        told_so {P = λ t. Tells t middle (look_at_each middle.trail.question) response after} middle.folder.holds tree
+        (a.folder.tree ∙ holds) b.tells
+
+    both : Answered (afresh before) (and_then asking (λ v. look_at_each middle.trail.question)) response after
+    both = then_given (afresh before) middle after asking (λ v. look_at_each middle.trail.question) value response a b
+
+    within_both : (tree : Tree) (sights : Sights) → before.folder.holds ≡ Some tree → Sees tree before.known sights
+        → All (Contains (looks sights asking))
+        (looks sights (and_then asking (λ v. look_at_each middle.trail.question)))
+    within_both tree sights holds sees =
+        let counts = ends_counted look_limits sights (begun before.trail) asking value middle.trail
+        ((told_first tree holds).says sights sees) in
+        subst (All (Contains (looks sights asking)))
+        (sym (questions_then sights asking (λ v. look_at_each middle.trail.question)
+        ∙ ap (λ ps. looks sights asking ++ ps) (looks_each sights middle.trail.question)))
+        (All-append (Contains (looks sights asking)) (looks sights asking) middle.trail.question
+        (All-contains_itself (looks sights asking))
+        (subst (All (Contains (looks sights asking))) (sym counts.counts.question) (footprint_looks sights asking)))
+
+    -- the looks count nothing
+    counted_all : (tree : Tree) (sights : Sights) → before.folder.holds ≡ Some tree → Sees tree before.known sights
+        → Comes (ends tt middle.trail) response after.trail
+    counted_all tree sights holds sees =
+        subst (λ end. Comes end response after.trail)
+        (question_is_counted look_limits sights before.trail middle.trail asking value
+        ((told_first tree holds).says sights sees))
+        ((told_last tree holds).says sights
+        (sees_still tree before.known middle.known sights (told_first tree holds).same sees))
+
+  pub given_still : Answered middle (look_at_each middle.trail.question) (given tt) after
+      → Answered (afresh before) asking (given value) after
+  given_still b =
+      reframed (afresh before) after (and_then asking (λ v. look_at_each middle.trail.question)) asking (given tt)
+      (given value) (both (given tt) b) (λ e. absurd (cc)) (λ e. absurd (cc)) (λ e. absurd (cc)) (λ e. absurd (cc))
+      (λ tree sights holds sees.
+      let same : middle.trail ≡ after.trail = trail_of (counted_all (given tt) b tree sights holds sees) in
+      (told_first tree holds).says sights sees ∙ ap (ends value) same)
+      (within_both (given tt) b)
+    where
+      trail_of : {one other : Trail} → Comes (ends tt one) (given tt) other → one ≡ other
+      trail_of e = cc
+
+  never_passed : (failing : Failing) (end : Ended X Trail LimitName) (one other : Trail)
+      → Comes (ends tt one) (fails failing) other → Fails end failing other
+  never_passed (passes name) end one other e = absurd (cc)
+  never_passed not_read end one other e = tt
+  never_passed no_memory end one other e = tt
+  never_passed never end one other e = e
+
+  pub failed_behind : (failing : Failing)
+      → Answered {X = Unit {0}} middle (look_at_each middle.trail.question) (fails failing) after
+      → Answered {X = X} (afresh before) asking (fails failing) after
+  failed_behind failing b =
+      reframed {X = Unit {0}} {Y = X} (afresh before) after
+      (and_then asking (λ v. look_at_each middle.trail.question)) asking (fails failing) (fails failing)
+      (both (fails failing) b) (carried failing no_memory) (carried failing not_read) (carried failing not_read)
+      (carried failing never)
+      (λ tree sights holds sees.
+      never_passed failing (evaluated (limited look_limits sights) (begun before.trail) asking) middle.trail after.trail
+      (counted_all (fails failing) b tree sights holds sees))
+      (within_both (fails failing) b)
+
+-- ---- memory was wanting behind an answer
+
+pub lost : {X : Type 0} (before after : State) (asking : LookAsking X) (value : X)
+    → Answered before asking (given value) after → Answered {X = X} before asking (fails no_memory) after
+lost {X} before after asking value a =
+    reframed {X = X} {Y = X} before after asking asking (given value) (fails no_memory) a (λ e. absurd (cc))
+    (λ e. absurd (cc)) (λ e. absurd (cc)) (λ e. absurd (cc)) (λ tree sights holds sees. tt)
+    (λ tree sights holds sees. All-contains_itself (looks sights asking))
+
+-- ---- faults of looks alone
+
+abbrev limit_failing : LimitName → Failing
+limit_failing File = passes File
+limit_failing Bytes = passes Bytes
+limit_failing Looks = passes Looks
+limit_failing Modules = never
+limit_failing ModuleRequests = never
+limit_failing Requests = never
+limit_failing Specifier = never
+limit_failing Entries = never
+limit_failing Brackets = never
+limit_failing Depth = never
+limit_failing Session = never
+limit_failing Map = never
+limit_failing Choices = never
+
+abbrev pub failing_of : LookupFault → Failing
+failing_of ReadFault = not_read
+failing_of (Limit which) = limit_failing which
+failing_of InvalidConfig = never
+failing_of Memory = no_memory
+
+as_limit : {X : Type 0} (which : LimitName) → by_limit (failed X never) which ≡ fails (limit_failing which)
+as_limit File = refl
+as_limit Bytes = refl
+as_limit Looks = refl
+as_limit Modules = refl
+as_limit ModuleRequests = refl
+as_limit Requests = refl
+as_limit Specifier = refl
+as_limit Entries = refl
+as_limit Brackets = refl
+as_limit Depth = refl
+as_limit Session = refl
+as_limit Map = refl
+as_limit Choices = refl
+
+as_failing : {X : Type 0} (fault : LookupFault)
+    → by_fault (failed X never) (failed X never) fault ≡ fails (failing_of fault)
+as_failing ReadFault = refl
+as_failing (Limit which) = as_limit which
+as_failing InvalidConfig = refl
+as_failing Memory = refl
+
+pub to_failing : (before after : State) (seen : List LookSeen) (fault : LookupFault)
+    → LooksTo before seen (by_fault (fails never) (fails never) fault) after
+    → LooksTo before seen (fails (failing_of fault)) after
+to_failing before after seen fault to = subst (λ r. LooksTo before seen r after) (as_failing fault) to
+
+module _ {X : Type 0} (before after : State) (asking : LookAsking X) where
+  -- of a question that can't be refused, and back
+  pub by_failing : (fault : LookupFault) → Answered {X = X} before asking (fails (failing_of fault)) after
+      → Answered before asking (by_fault (fails never) (fails never) fault) after
+  by_failing fault a = subst (λ r. Answered before asking r after) (sym (as_failing fault)) a
+
+  pub failing_by : (fault : LookupFault)
+      → Answered before asking (by_fault (fails never) (fails never) fault) after
+      → Answered {X = X} before asking (fails (failing_of fault)) after
+  failing_by fault a = subst (λ r. Answered before asking r after) (as_failing fault) a
+
+module _ {Y : Type 0} (before after : State) (asking : Resolving Y) where
+  node_limit : (which : LimitName) → Answered {X = Result Y Refusal} before asking (fails (limit_failing which)) after
+      → Answered before asking (by_limit deep_config which) after
+  node_limit File a = a
+  node_limit Bytes a = a
+  node_limit Looks a = a
+  node_limit Modules a = a
+  node_limit ModuleRequests a = a
+  node_limit Requests a = a
+  node_limit Specifier a = a
+  node_limit Entries a = a
+  node_limit Brackets a = a
+  node_limit Depth a = absurd (a.possible refl)
+  node_limit Session a = a
+  node_limit Map a = a
+  node_limit Choices a = a
+
+  node_of : (fault : LookupFault) → Answered {X = Result Y Refusal} before asking (fails (failing_of fault)) after
+      → Answered before asking (by_node_fault (node_fault fault)) after
+  node_of ReadFault a = a
+  node_of Memory a = a
+  node_of InvalidConfig a = absurd (a.possible refl)
+  node_of (Limit which) a = node_limit which a
+
+  -- of one that may be
+  pub node_failing : (fault : LookupFault) (named : NodeFault) → named ≡ node_fault fault
+      → Answered {X = Result Y Refusal} before asking (fails (failing_of fault)) after
+      → Answered before asking (by_node_fault named) after
+  node_failing fault named same a =
+      subst (λ f. Answered before asking (by_node_fault f) after) (sym same) (node_of fault a)

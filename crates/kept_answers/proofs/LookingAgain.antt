@@ -1,11 +1,13 @@
 -- Looks one after another.
 --     Again before whole now rest       the looks before the rest saw the same again
+--     again_err                         a fault that is handed on
 --     again_begins, again_goes          at the first look, and behind one more
 --     again_ends, again_fails, again_differs      at the end, where a look fails, and where one sees otherwise
 --     SoFar before whole now rest looks           the looks at the paths before the rest
 --     far_begins, far_goes, far_ends, far_fails, far_lost
-use Rattle.std.proofs.Common.{◌≡◌, ◌≢◌, ℕ, List, [], ◌∷◌, ◌++◌, length, Option, Some, refl, sym, ap, ◌∙◌, subst, append_assoc, append-nil}
+use Rattle.std.proofs.Common.{◌≡◌, ◌≢◌, ℕ, List, [], ◌∷◌, ◌++◌, length, Bool, Option, Some, Result, refl, sym, ap, ◌∙◌, subst, append_assoc, append-nil}
 use Rattle.std.specs.Prelude.{All}
+use Rattle.std.specs.Result.{IsErrAnd}
 use Rattle.std.proofs.lemmas.List.Elements.{All-nil, All-cons, All-append}
 use Rattle.tree_spec.specs.LookAskings.{LookAsking, look_at, look_at_each}
 use Rattle.tree_spec.specs.LookLimits.{Trail, begun, look_limits, counted}
@@ -18,9 +20,9 @@ use Rattle.package_lookup.specs.SeenLooks.{entry_of, look_seen}
 use Rattle.package_lookup.specs.declared.fault.LookupFault.{LookupFault}
 use Rattle.package_lookup.specs.declared.held.Seen.{Seen}
 use Rattle.package_lookup.specs.declared.known.Known.{Known}
-use Rattle.package_lookup.proofs.Questions.{Left, left_begins, left_goes, looked_on, now_given, no_memory_now}
+use Rattle.package_lookup.proofs.Questions.{Left, handed, left_begins, left_goes, looked_on, now_given, no_memory_now}
 use Rattle.kept_spec.specs.Certificates.{LookSeen, paths_of}
-use Rattle.kept_answers.specs.KnownLooks.{IsSmall, IsAsKnown, AreLooksAt, afresh, IsSeenAgain, LooksTo, IsOther}
+use Rattle.kept_answers.specs.KnownLooks.{IsSmall, IsAsKnown, AreLooksAt, afresh, IsSeenAgain, LooksTo, IsOther, LooksAgain}
 use Rattle.kept_answers.proofs.KnownLemmas.{as_seen, all_still}
 
 paths_one : (same : List LookSeen) (look : LookSeen) (more : List (List ℕ))
@@ -29,15 +31,21 @@ paths_one [] look more = refl
 paths_one (first ∷ same) look more = ap (λ ps. first.path ∷ ps) (paths_one same look more)
 
 -- a look whose path is known so
-pub is_known : (known : Known) (path own : List ℕ) (seen : Seen) (look : LookSeen)
+pub is_known : (known : Known) (path : List ℕ) (seen : Seen) (look : LookSeen)
     → known_at known path ≡ Some (look_seen seen) → look_seen seen ≡ look_for look.found → path ≡ look.path
     → IsSmall look.found → IsAsKnown known look
-is_known known path own seen look here same at small = record {
+is_known known path seen look here same at small = record {
   known_so = ap (known_at known) (sym at) ∙ (here ∙ ap Some same);
   small = small;
 }
 
 -- ---- looks again
+
+pub again_err : (before : State) (looks : List LookSeen) (result : Result Bool LookupFault) (fault : LookupFault)
+    (after : State) → IsErrAnd result (λ given. given ≡ fault)
+    → LooksTo before looks (by_fault (fails never) (fails never) fault) after → LooksAgain before looks result after
+again_err before looks result fault after e to =
+    subst (λ r. LooksAgain before looks r after) (sym (handed result fault e)) to
 
 pub record Again (before : State) (whole : List LookSeen) (now : State) (rest : List LookSeen) : Type 0 where
   pub same : List LookSeen
@@ -153,12 +161,14 @@ module _ (before now later : State) (whole rest others : List (List ℕ)) (path 
       left_goes before now later (look_at_each whole) (look_at path) (λ seen. look_at_each others) found
       (subst (λ r. Left before (look_at_each whole) now (look_at_each r)) cut far.left) a
 
-  pub far_goes : (seen : Seen) (look : LookSeen) (more : List LookSeen)
+  pub far_goes : (seen : Seen) (own : List ℕ) (look : LookSeen) (more : List LookSeen) → own ≡ path
       → Answered now (look_at path) (given (entry_of seen)) later → known_at later.known path ≡ Some (look_seen seen)
-      → IsSmall (entry_of seen) → look ≡ record { path = path; found = entry_of seen } → more ≡ looks ++ look ∷ []
+      → IsSmall (entry_of seen) → look ≡ record { path = own; found = entry_of seen } → more ≡ looks ++ look ∷ []
       → SoFar before whole later others more
-  far_goes seen look more a here small is all =
-      subst (λ ls. SoFar before whole later others ls) (sym (all ∙ ap (λ l. looks ++ l ∷ []) is))
+  far_goes seen own look more copy a here small is all =
+      subst (λ ls. SoFar before whole later others ls)
+      (sym (all ∙ (ap (λ l. looks ++ l ∷ []) is
+      ∙ ap (λ p. looks ++ record { path = p; found = entry_of seen } ∷ []) copy)))
       (record {
         left = left_behind (entry_of seen) a;
         split = far.split ∙ (ap (λ r. paths_of looks ++ r) cut
