@@ -4,9 +4,10 @@
 --     failed_again         so do looks of which one fails
 --     behind_looks         a question behind looks of which one sees otherwise
 --     given_still, failed_behind      an answer, behind looks at the paths of its question
---     lost                 memory was wanting behind an answer
+--     lost, no_memory_begun      memory was wanting behind an answer, and before the first look
+--     kept_looks, seen_again, seen_other      the same under other names
 --     failing_of, as_failing, by_failing, node_failing      a fault of looks alone, in each place
-use Rattle.std.proofs.Common.{◌≡◌, ℕ, List, [], ◌∷◌, ◌++◌, Option, Some, None, Result, Ok, Err, IfSome, refl, sym, ap, ◌∙◌, subst}
+use Rattle.std.proofs.Common.{◌≡◌, ℕ, Bool, true, false, List, [], ◌∷◌, ◌++◌, Option, Some, None, Result, Ok, Err, IfSome, refl, sym, ap, ◌∙◌, subst}
 use Rattle.std.specs.Prelude.{All, Contains}
 use Rattle.std.proofs.lemmas.List.Elements.{All-append, All-contains, All-contains_itself}
 use Rattle.asking_spec.specs.Askings.{answered, and_then}
@@ -20,6 +21,7 @@ use Rattle.tree_spec.proofs.LimitedLooks.{ends_counted}
 use Rattle.tree_spec.proofs.ToldStates.{if_some, if_two, looks_then}
 use Rattle.tree_spec.specs.LookAskings.{Sights, LookAsking, look_at_each, looks, footprint}
 use Rattle.tree_spec.specs.LookLimits.{Trail, begun, look_limits, limited}
+use Rattle.tree_spec.specs.States.{FolderState}
 use Rattle.tree_spec.specs.Trees.{Tree}
 use Rattle.tree_spec.specs.declared.LimitName.{LimitName}
 use Rattle.tree_spec.specs.declared.LimitName.TheVariants.{File, Bytes, Looks, Modules, ModuleRequests, Requests, Specifier, Entries, Brackets, Depth, Session, Map, Choices}
@@ -29,18 +31,22 @@ use Rattle.node_resolve.specs.Responses.{node_fault, by_node_fault}
 use Rattle.node_resolve.specs.declared.fault.NodeFault.{NodeFault}
 use Rattle.package_lookup.specs.Answered.{State, state, Fails, Comes, Tells, IsLookOf, Answered}
 use Rattle.package_lookup.specs.Looked.{Sees, SomeSights}
+use Rattle.package_lookup.specs.declared.known.Known.{Known}
 use Rattle.package_lookup.specs.Responses.{Response, Failing, given, fails, passes, not_read, no_memory, never, by_limit, by_fault, deep_config}
 use Rattle.package_lookup.specs.Trails.{Lengthens}
 use Rattle.package_lookup.specs.declared.fault.LookupFault.{LookupFault}
 use Rattle.package_lookup.specs.declared.fault.LookupFault.TheVariants.{ReadFault, Limit, InvalidConfig, Memory}
 use Rattle.package_lookup.proofs.Learnings.{learns_then, learns_by, learns_at}
-use Rattle.package_lookup.proofs.Questions.{carried, failed, grows_twice, lengthens_twice, sees_still, then_given}
+use Rattle.package_lookup.proofs.Questions.{carried, failed, grows_twice, lengthens_twice, sees_still, then_given, no_memory_now}
 use Rattle.kept_spec.specs.Certificates.{LookSeen, paths_of, AreSeen}
 use Rattle.kept_spec.specs.Replays.{IsFront}
 use Rattle.kept_spec.proofs.Certifying.{end_is_certified, certified_is_asked}
 use Rattle.kept_spec.proofs.FrontLooks.{front_is_looked, front_goes_before, front_stops, question_is_counted}
-use Rattle.kept_answers.specs.KnownLooks.{AreLooksAt, afresh, IsSeenAgain, LooksTo, IsKept}
+use Rattle.kept_answers.specs.KnownLooks.{AreLooksAt, afresh, IsSeenAgain, LooksTo, LooksAgain, IsKept}
 use Rattle.kept_answers.proofs.KnownLemmas.{all_seen}
+
+abbrev failed_given : Response (Unit {0})
+failed_given = given tt
 
 -- what is told, by name
 if_told : {A : Type 0} {P : A → Type 0} (told : Option A) → ((x : A) → told ≡ Some x → P x) → IfSome told P
@@ -78,6 +84,21 @@ kept_by some before middle after asking value response a b =
     a.folder.tree b.tells)
 
 -- ---- looks again
+
+-- under another name of the looks
+pub kept_looks : {X : Type 0} (told : Option Tree) (asking : LookAsking X) (value : X) (looks shown : List LookSeen)
+    → shown ≡ looks → IfSome told (λ tree. IsKept asking value looks) → IfSome told (λ tree. IsKept asking value shown)
+kept_looks told asking value looks shown same kept =
+    subst (λ ls. IfSome told (λ tree. IsKept asking value ls)) (sym same) kept
+
+pub seen_again : (before after : State) (looks : List LookSeen) (same : Bool) → same ≡ true
+    → LooksAgain before looks (Ok same) after → IsSeenAgain before looks after
+seen_again before after looks same is again = subst (λ s. LooksAgain before looks (Ok s) after) is again
+
+pub seen_other : (before after : State) (looks : List LookSeen) (same : Bool) → same ≡ false
+    → LooksAgain before looks (Ok same) after → LooksTo before looks (given tt) after
+seen_other before after looks same is again =
+    (subst (λ s. LooksAgain before looks (Ok s) after) is again).0
 
 looks_each : (sights : Sights) (paths : List (List ℕ)) → looks sights (look_at_each paths) ≡ paths
 looks_each sights [] = refl
@@ -243,10 +264,6 @@ module _ {X : Type 0} (asking : LookAsking X) (value : X) (seen : List LookSeen)
           middle.folder after.folder (λ e. cc) to.answered.folder rest.folder;
       possible = rest.possible;
     }
-      where
-        abbrev failed_given : Response (Unit {0})
-        failed_given = given tt
-
 -- ---- an answer behind looks at the paths of its question
 
 module _ {X : Type 0} (asking : LookAsking X) (value : X) (before middle after : State)
@@ -321,7 +338,13 @@ module _ {X : Type 0} (asking : LookAsking X) (value : X) (before middle after :
       (counted_all (fails failing) b tree sights holds sees))
       (within_both (fails failing) b)
 
--- ---- memory was wanting behind an answer
+-- ---- memory was wanting behind an answer, and before the first look
+
+pub no_memory_begun : {X : Type 0} (folder : FolderState) (known : Known) (old now : Trail) (asking : LookAsking X)
+    → now ≡ begun old → Answered {X = X} (state folder known (begun old)) asking (fails no_memory) (state folder known now)
+no_memory_begun {X} folder known old now asking same =
+    subst (λ t. Answered {X = X} (state folder known (begun old)) asking (fails no_memory) (state folder known t))
+    (sym same) (no_memory_now (state folder known (begun old)) asking)
 
 pub lost : {X : Type 0} (before after : State) (asking : LookAsking X) (value : X)
     → Answered before asking (given value) after → Answered {X = X} before asking (fails no_memory) after

@@ -1,40 +1,23 @@
--- The source of a module that is kept.
---     module_again         looks again answer the question for it
---     inside_as            requests stand in equal bytes too
+-- The sources of modules that are kept.
+--     is_kept              what the table says of a module
+--     source_as            the same of a source that is as this one
 --     put_copy             to keep one more, under a copy of its path, leaves the table right
 use Rattle.std.proofs.Common.{◌≡◌, ℕ, Bool, List, Option, Some, Result, Ok, IfSome, subst, sym}
-use Rattle.std.specs.Prelude.{bytes_eq, if◌then◌else◌, All, OnOk, OnErr}
+use Rattle.std.specs.Prelude.{bytes_eq, if◌then◌else◌, OnOk, OnErr}
 use Rattle.tree_spec.proofs.ToldStates.{if_some}
-use Rattle.tree_spec.specs.LookAskings.{look_at_each}
-use Rattle.module_spec.specs.declared.request.Request.{Request}
-use Rattle.module_sources.specs.Shown.{AreInside}
+use Rattle.tree_spec.specs.Trees.{Tree}
 use Rattle.trace_spec.specs.Questions.{module_source}
-use Rattle.package_lookup.specs.Answered.{State, Answered}
-use Rattle.package_lookup.specs.Responses.{Response}
-use Rattle.kept_spec.specs.Certificates.{LookSeen, paths_of, IsCertified}
 use Rattle.kept_answers.specs.Entries.{ModuleSeen, source_seen}
-use Rattle.kept_answers.specs.KnownLooks.{IsAsKnown}
+use Rattle.kept_answers.specs.KnownLooks.{IsKept}
 use Rattle.kept_answers.specs.Tables.{modules_at, IsModuleOf, AreModules}
 use Rattle.kept_answers.specs.declared.modules.KeptModules.{KeptModules}
-use Rattle.kept_answers.proofs.Certifying.{afresh, with_answer, answered_again}
 use Rattle.kept_answers.proofs.TableLemmas.{put_right, one_path}
 
-pub module_again : (before after : State) (path : List ℕ) (kept : ModuleSeen) (response : Response (Unit {0}))
-    (looks : List LookSeen) → looks ≡ kept.looks → All (IsAsKnown before.known) kept.looks
-    → IfSome before.folder.holds (λ tree. IsModuleOf path kept)
-    → Answered (afresh before) (look_at_each (paths_of looks)) response after
-    → Answered (afresh before) (module_source path) (with_answer (Ok (source_seen kept)) response) after
-module_again before after path kept response looks same known right a =
-    answered_again before after (module_source path) (Ok (source_seen kept)) kept.looks response known
-    (if_some {P = λ tree. IsModuleOf path kept}
-    {Q = λ tree. IsCertified (module_source path) (Ok (source_seen kept)) kept.looks} before.folder.holds
-    (λ tree is. is.certified) right)
-    (subst (λ ls. Answered (afresh before) (look_at_each (paths_of ls)) response after) same a)
-
-pub inside_as : (bytes others : List ℕ) (requests more : List Request) → bytes ≡ others → requests ≡ more
-    → AreInside others more → AreInside bytes requests
-inside_as bytes others requests more here there inside =
-    subst (λ b. AreInside b requests) (sym here) (subst (AreInside others) (sym there) inside)
+pub is_kept : (told : Option Tree) (path : List ℕ) (kept : ModuleSeen) → IfSome told (λ tree. IsModuleOf path kept)
+    → IfSome told (λ tree. IsKept (module_source path) (Ok (source_seen kept)) kept.looks)
+is_kept told path kept right =
+    if_some {P = λ tree. IsModuleOf path kept}
+    {Q = λ tree. IsKept (module_source path) (Ok (source_seen kept)) kept.looks} told (λ tree of. of.is) right
 
 put_module : {E : Type 0} (path : List ℕ) (kept : ModuleSeen) (old new : KeptModules) (result : Result (Unit {0}) E)
     → OnOk result ((other : List ℕ) → modules_at new other

@@ -1,8 +1,11 @@
 -- What is put into a table of right answers leaves it right.
 --     put_right            one answer more, or none
 --     one_request          two requests that the test takes for one are one
-use Rattle.std.proofs.Common.{◌≡◌, ℕ, Bool, true, false, List, Option, Some, None, Result, Ok, Err, refl, sym, ap, ◌∙◌, subst}
-use Rattle.std.specs.Prelude.{bytes_eq, ◌&&◌, if◌then◌else◌, OnOk, OnErr}
+--     one_more             one name more
+use Rattle.std.proofs.Common.{◌≡◌, ◌+◌, ℕ, Bool, true, false, List, [], ◌∷◌, ◌++◌, take, Option, Some, None, Result, Ok, Err, refl, sym, ap, ◌∙◌, subst}
+use Rattle.std.specs.Prelude.{bytes_eq, ◌&&◌, if◌then◌else◌, OnOk, OnErr, slice_get}
+use Rattle.std.proofs.lemmas.List.{take_more}
+use Rattle.std.proofs.lemmas.Option.{slice_get_within, get_or_from_slice_get}
 use Rattle.std.proofs.lemmas.Slice.Eq.{bytes_eq-Decides}
 use Rattle.kept_answers.specs.Entries.{Request, is_request}
 
@@ -48,3 +51,12 @@ one_request request other same =
       parent = one_path request.parent other.parent both.0 i;
       specifier = one_path request.specifier other.specifier both.1 i;
     })
+
+-- ---- names, copied one after another
+
+pub one_more : (names all next : List (List ℕ)) (i : ℕ) (copy name : List ℕ) → names ≡ take i all
+    → slice_get all i ≡ Some name → copy ≡ name → next ≡ names ++ copy ∷ [] → next ≡ take (i + 1) all
+one_more names all next i copy name so_far at same put =
+    let step = take_more all i name (slice_get_within all i name at) in
+    let here = get_or_from_slice_get all i name name at in
+    cc

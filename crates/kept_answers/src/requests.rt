@@ -1,4 +1,4 @@
-ghost use Rattle.std.specs.Prelude.{◌≡◌, None, Some, IfOk, IfSome, OnOk, OnErr, take, true, option_copied};
+ghost use Rattle.std.specs.Prelude.{◌≡◌, None, Some, IfOk, IfSome, OnOk, OnErr, option_copied};
 ghost use Rattle.std.specs.Prelude.{if◌then◌else◌};
 ghost use Rattle.std.specs.HashMap as map;
 ghost use Rattle.kept_answers.specs.Entries.{Request, is_request};
@@ -74,10 +74,11 @@ fn names_of(alloc: Global, conditions: &Conditions) -> Result<Listed<Text>, Memo
     ensures { IfOk result (λ names. names ≡ conditions.now) }
 {
     let mut names = Listed::new(alloc);
-    let mut at = 0;
-    while let Some(name) = conditions.at(at) {
+    for index in 0..conditions.len() {
+        let Some(name) = conditions.at(index) else {
+            unreachable!();
+        };
         names.push(name.copy(alloc)?)?;
-        at += 1;
     }
     Ok(names)
 }
