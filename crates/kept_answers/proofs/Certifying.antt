@@ -45,16 +45,16 @@ use Rattle.kept_spec.proofs.FrontLooks.{front_is_looked, front_goes_before, fron
 use Rattle.kept_answers.specs.KnownLooks.{AreLooksAt, afresh, IsSeenAgain, LooksTo, LooksAgain, IsKept}
 use Rattle.kept_answers.proofs.KnownLemmas.{all_seen}
 
-abbrev failed_given : Response (Unit {0})
-failed_given = given tt
+abbrev nothing_given : Response (Unit {0})
+nothing_given = given tt
 
 -- what is told, by name
 if_told : {A : Type 0} {P : A → Type 0} (told : Option A) → ((x : A) → told ≡ Some x → P x) → IfSome told P
 if_told None each = tt
 if_told (Some x) each = each x refl
 
-told_so : {A : Type 0} {P : A → Type 0} (told : Option A) (x : A) → told ≡ Some x → IfSome told P → P x
-told_so {A} {P} told x same is = subst (λ t. IfSome t P) same is
+told_so : {A : Type 0} (P : A → Type 0) (told : Option A) (x : A) → told ≡ Some x → IfSome told P → P x
+told_so P told x same is = subst (λ t. IfSome t P) same is
 
 -- ---- an answer that was given is certified by its looks
 
@@ -115,7 +115,7 @@ footprint_looks sights asking =
 module _ {X : Type 0} (asking : LookAsking X) (value : X) (seen : List LookSeen) (before : State)
     (kept : IfSome before.folder.holds (λ tree. IsKept asking value seen)) where
   kept_at : (tree : Tree) → before.folder.holds ≡ Some tree → IsKept asking value seen
-  kept_at tree holds = told_so {P = λ t. IsKept asking value seen} before.folder.holds tree holds kept
+  kept_at tree holds = told_so (λ t. IsKept asking value seen) before.folder.holds tree holds kept
 
   -- where all of them see the same
   pub given_again : (after : State) → IsSeenAgain before seen after → Answered (afresh before) asking (given value) after
@@ -126,7 +126,7 @@ module _ {X : Type 0} (asking : LookAsking X) (value : X) (seen : List LookSeen)
       told_at : (tree : Tree) → before.folder.holds ≡ Some tree
           → Tells tree (afresh before) (look_at_each (paths_of seen)) (given tt) after
       told_at tree holds =
-          told_so {P = λ t. Tells t (afresh before) (look_at_each (paths_of seen)) (given tt) after}
+          told_so (λ t. Tells t (afresh before) (look_at_each (paths_of seen)) (given tt) after)
           before.folder.holds tree holds again.answered.tells
 
       here : (tree : Tree) (sights : Sights) → before.folder.holds ≡ Some tree → Sees tree before.known sights
@@ -160,7 +160,7 @@ module _ {X : Type 0} (asking : LookAsking X) (value : X) (seen : List LookSeen)
     told_to : (tree : Tree) → before.folder.holds ≡ Some tree
         → Tells tree (afresh before) (look_at_each front) response after
     told_to tree holds =
-        told_so {P = λ t. Tells t (afresh before) (look_at_each front) response after} before.folder.holds tree holds
+        told_so (λ t. Tells t (afresh before) (look_at_each front) response after) before.folder.holds tree holds
         to.answered.tells
 
     is_front : (tree : Tree) (sights : Sights) → before.folder.holds ≡ Some tree → Sees tree before.known sights
@@ -179,15 +179,15 @@ module _ {X : Type 0} (asking : LookAsking X) (value : X) (seen : List LookSeen)
         (all_front (Contains (looks sights asking)) front is.0
         (subst (All (Contains (looks sights asking))) is.1 (footprint_looks sights asking)))
 
-  fails_by : (failing : Failing) (sights : Sights) (front : List (List ℕ)) (later : Trail)
-      → IsFront front (footprint sights asking)
-      → Fails (evaluated (limited look_limits sights) (begun before.trail) (look_at_each front)) failing later
+  fails_by : (failing : Failing) (sights : Sights) (paths : List (List ℕ)) (later : Trail)
+      → IsFront paths (footprint sights asking)
+      → Fails (evaluated (limited look_limits sights) (begun before.trail) (look_at_each paths)) failing later
       → Fails (evaluated (limited look_limits sights) (begun before.trail) asking) failing later
-  fails_by (passes name) sights front later is e =
-      front_stops look_limits sights before.trail later asking front name is e
-  fails_by not_read sights front later is e = tt
-  fails_by no_memory sights front later is e = tt
-  fails_by never sights front later is e = e
+  fails_by (passes name) sights paths later is e =
+      front_stops look_limits sights before.trail later asking paths name is e
+  fails_by not_read sights paths later is e = tt
+  fails_by no_memory sights paths later is e = tt
+  fails_by never sights paths later is e = e
 
   -- where one of them fails
   pub failed_again : (failing : Failing) (after : State) → LooksTo before seen (fails failing) after
@@ -219,8 +219,8 @@ module _ {X : Type 0} (asking : LookAsking X) (value : X) (seen : List LookSeen)
         (λ tree holds sights sees.
         All-contains (Contains (looks sights asking)) (looks sights (look_at_each (front (given tt) middle to))) path
         (within_front (given tt) middle to tree sights holds sees)
-        (told_so {P = λ t. (s : Sights) → Sees t before.known s
-        → Contains (looks s (look_at_each (front (given tt) middle to))) path}
+        (told_so (λ t. (s : Sights) → Sees t before.known s
+        → Contains (looks s (look_at_each (front (given tt) middle to))) path)
         before.folder.holds tree holds is sights sees))
 
     looks_behind : (path : List ℕ) → IsLookOf (afresh middle) asking path → IsLookOf (afresh before) asking path
@@ -228,7 +228,7 @@ module _ {X : Type 0} (asking : LookAsking X) (value : X) (seen : List LookSeen)
         if_told {P = λ tree. (sights : Sights) → Sees tree before.known sights → Contains (looks sights asking) path}
         before.folder.holds
         (λ tree holds sights sees.
-        told_so {P = λ t. (s : Sights) → Sees t middle.known s → Contains (looks s asking) path}
+        told_so (λ t. (s : Sights) → Sees t middle.known s → Contains (looks s asking) path)
         middle.folder.holds tree (to.answered.folder.tree ∙ holds) is sights
         (sees_still tree before.known middle.known sights (told_to (given tt) middle to tree holds).same sees))
 
@@ -236,7 +236,7 @@ module _ {X : Type 0} (asking : LookAsking X) (value : X) (seen : List LookSeen)
         → (tree : Tree) → before.folder.holds ≡ Some tree → Tells tree (afresh before) asking response after
     tells_behind response after rest tree holds =
         let here = told_to (given tt) middle to tree holds in
-        let later = told_so {P = λ t. Tells t (afresh middle) asking response after} middle.folder.holds tree
+        let later = told_so (λ t. Tells t (afresh middle) asking response after) middle.folder.holds tree
         (to.answered.folder.tree ∙ holds) rest.tells in
         record {
           says = λ sights sees. subst (λ end. Comes end response after.trail) (same_end tree sights holds sees)
@@ -253,30 +253,36 @@ module _ {X : Type 0} (asking : LookAsking X) (value : X) (seen : List LookSeen)
       trail = lengthens_twice (begun before.trail) middle.trail after.trail to.answered.trail
           (record { more = rest.trail.more; paths = rest.trail.paths; size = rest.trail.size });
       covered = λ finished covers. rest.covered finished (to.answered.covered (λ e. cc) covers);
-      asked = (learns_then (afresh before) (afresh middle) after (failed_given ≡ fails no_memory)
+      asked = (learns_then (afresh before) (afresh middle) after (nothing_given ≡ fails no_memory)
           (response ≡ fails no_memory) (IsLookOf (afresh before) (look_at_each (front (given tt) middle to)))
           (IsLookOf (afresh middle) asking) (IsLookOf (afresh before) asking) (λ e. cc) first_looks_of looks_behind
-          (learns_at (afresh before) middle (begun before.trail) (begun middle.trail) (failed_given ≡ fails no_memory)
+          (learns_at (afresh before) middle (begun before.trail) (begun middle.trail) (nothing_given ≡ fails no_memory)
           (IsLookOf (afresh before) (look_at_each (front (given tt) middle to)))
           (learns_by (afresh before) middle (look_at_each (front (given tt) middle to)) (given tt) to.answered))
           (learns_by (afresh middle) after asking response rest)).asked;
-      folder = looks_then {P = failed_given ≡ fails not_read} {Q = response ≡ fails not_read} before.folder
+      folder = looks_then {P = nothing_given ≡ fails not_read} {Q = response ≡ fails not_read} before.folder
           middle.folder after.folder (λ e. cc) to.answered.folder rest.folder;
       possible = rest.possible;
     }
 -- ---- an answer behind looks at the paths of its question
 
+abbrev at_end : Trail → Ended (Unit {0}) Trail LimitName
+at_end trail = ends tt trail
+
+trail_of : (one other : Trail) → Comes (at_end one) nothing_given other → one ≡ other
+trail_of one other e = cc
+
 module _ {X : Type 0} (asking : LookAsking X) (value : X) (before middle after : State)
     (a : Answered (afresh before) asking (given value) middle) where
   told_first : (tree : Tree) → before.folder.holds ≡ Some tree → Tells tree (afresh before) asking (given value) middle
   told_first tree holds =
-      told_so {P = λ t. Tells t (afresh before) asking (given value) middle} before.folder.holds tree holds a.tells
+      told_so (λ t. Tells t (afresh before) asking (given value) middle) before.folder.holds tree holds a.tells
 
   module _ (response : Response (Unit {0})) (b : Answered middle (look_at_each middle.trail.question) response after) where
     told_last : (tree : Tree) → before.folder.holds ≡ Some tree
         → Tells tree middle (look_at_each middle.trail.question) response after
     told_last tree holds =
-        told_so {P = λ t. Tells t middle (look_at_each middle.trail.question) response after} middle.folder.holds tree
+        told_so (λ t. Tells t middle (look_at_each middle.trail.question) response after) middle.folder.holds tree
         (a.folder.tree ∙ holds) b.tells
 
     both : Answered (afresh before) (and_then asking (λ v. look_at_each middle.trail.question)) response after
@@ -297,7 +303,7 @@ module _ {X : Type 0} (asking : LookAsking X) (value : X) (before middle after :
 
     -- the looks count nothing
     counted_all : (tree : Tree) (sights : Sights) → before.folder.holds ≡ Some tree → Sees tree before.known sights
-        → Comes (ends tt middle.trail) response after.trail
+        → Comes (at_end middle.trail) response after.trail
     counted_all tree sights holds sees =
         subst (λ end. Comes end response after.trail)
         (question_is_counted look_limits sights before.trail middle.trail asking value
@@ -311,15 +317,12 @@ module _ {X : Type 0} (asking : LookAsking X) (value : X) (before middle after :
       reframed (afresh before) after (and_then asking (λ v. look_at_each middle.trail.question)) asking (given tt)
       (given value) (both (given tt) b) (λ e. absurd (cc)) (λ e. absurd (cc)) (λ e. absurd (cc)) (λ e. absurd (cc))
       (λ tree sights holds sees.
-      let same : middle.trail ≡ after.trail = trail_of (counted_all (given tt) b tree sights holds sees) in
+      let same : middle.trail ≡ after.trail = trail_of middle.trail after.trail (counted_all (given tt) b tree sights holds sees) in
       (told_first tree holds).says sights sees ∙ ap (ends value) same)
       (within_both (given tt) b)
-    where
-      trail_of : {one other : Trail} → Comes (ends tt one) (given tt) other → one ≡ other
-      trail_of e = cc
 
   never_passed : (failing : Failing) (end : Ended X Trail LimitName) (one other : Trail)
-      → Comes (ends tt one) (fails failing) other → Fails end failing other
+      → Comes (at_end one) (fails failing) other → Fails end failing other
   never_passed (passes name) end one other e = absurd (cc)
   never_passed not_read end one other e = tt
   never_passed no_memory end one other e = tt
