@@ -34,16 +34,18 @@ put_request request kept old new result set stays same is are = record {
       (one_request request) set stays is are.each);
 }
 
-pub copied : (names : List (List ℕ)) (request : Request) (kept copy : KeptRequest)
+pub copied : (names : List (List ℕ)) (request shown : Request) (kept copy : KeptRequest) → shown ≡ request
     → copy.found.value ≡ kept.found.value → copy.looks.value ≡ kept.looks.value → IsRequestOf names request kept
-    → IsRequestOf names request copy
-copied names request kept copy found looks of = record {
-  is =
-      subst (λ ls. IsKept (node names request.parent request.specifier) (Ok (module_of copy.found.value)) ls)
-      (sym looks)
-      (subst (λ (f : Found). IsKept (node names request.parent request.specifier) (Ok (module_of f)) kept.looks.value)
-      (sym found) of.is);
-}
+    → IsRequestOf names shown copy
+copied names request shown kept copy same found looks of =
+    subst (λ r. IsRequestOf names r copy) (sym same)
+    (record {
+      is =
+          subst (λ ls. IsKept (node names request.parent request.specifier) (Ok (module_of copy.found.value)) ls)
+          (sym looks)
+          (subst (λ (f : Found). IsKept (node names request.parent request.specifier) (Ok (module_of f)) kept.looks.value)
+          (sym found) of.is);
+    })
 
 -- ---- under other names of the same conditions, and of the same request
 
