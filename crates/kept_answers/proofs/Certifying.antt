@@ -7,18 +7,18 @@
 --     lost, no_memory_begun      memory was wanting behind an answer, and before the first look
 --     kept_looks, seen_again, seen_other      the same under other names
 --     failing_of, as_failing, by_failing, node_failing      a fault of looks alone, in each place
-use Rattle.std.proofs.Common.{◌≡◌, ℕ, Bool, true, false, List, [], ◌∷◌, ◌++◌, Option, Some, None, Result, Ok, Err, IfSome, refl, sym, ap, ◌∙◌, subst}
+use Rattle.std.proofs.Common.{◌≡◌, ℕ, Bool, true, false, List, [], ◌∷◌, ◌++◌, Option, Some, None, Result, Ok, IfSome, refl, sym, ap, ◌∙◌, subst}
 use Rattle.std.specs.Prelude.{All, Contains}
 use Rattle.std.proofs.lemmas.List.Elements.{All-append, All-contains, All-contains_itself}
 use Rattle.asking_spec.specs.Askings.{answered, and_then}
-use Rattle.asking_spec.specs.Evaluation.{Ended, ends, stopped, then_ended, evaluated}
+use Rattle.asking_spec.specs.Evaluation.{Ended, ends, then_ended, evaluated}
 use Rattle.asking_spec.proofs.AskingLemmas.{questions_then}
 use Rattle.asking_spec.proofs.EvaluationLemmas.{evaluated_then}
 use Rattle.tree_spec.proofs.Contained.{all_contained, contains_seen, seen_contained}
 use Rattle.tree_spec.proofs.FootprintSets.{footprint_is_set}
 use Rattle.tree_spec.proofs.Fronts.{all_front}
 use Rattle.tree_spec.proofs.LimitedLooks.{ends_counted}
-use Rattle.tree_spec.proofs.ToldStates.{if_some, if_two, looks_then}
+use Rattle.tree_spec.proofs.ToldStates.{if_two, looks_then}
 use Rattle.tree_spec.specs.LookAskings.{Sights, LookAsking, look_at_each, looks, footprint}
 use Rattle.tree_spec.specs.LookLimits.{Trail, begun, look_limits, limited}
 use Rattle.tree_spec.specs.States.{FolderState}
@@ -33,7 +33,6 @@ use Rattle.package_lookup.specs.Answered.{State, state, Fails, Comes, Tells, IsL
 use Rattle.package_lookup.specs.Looked.{Sees, SomeSights}
 use Rattle.package_lookup.specs.declared.known.Known.{Known}
 use Rattle.package_lookup.specs.Responses.{Response, Failing, given, fails, passes, not_read, no_memory, never, by_limit, by_fault, deep_config}
-use Rattle.package_lookup.specs.Trails.{Lengthens}
 use Rattle.package_lookup.specs.declared.fault.LookupFault.{LookupFault}
 use Rattle.package_lookup.specs.declared.fault.LookupFault.TheVariants.{ReadFault, Limit, InvalidConfig, Memory}
 use Rattle.package_lookup.proofs.Learnings.{learns_then, learns_by, learns_at}

@@ -1,23 +1,22 @@
 -- What is known to stand there, as looks saw it.
 --     as_seen              a look that was seen sees what stands there
 --     all_seen             what is known stands there, whatever looks tell
-use Rattle.std.proofs.Common.{◌≡◌, ℕ, nat_lt, Bool, true, false, List, [], ◌∷◌, ◌++◌, length, Option, Some, None, refl, sym, ap, ◌∙◌, subst, append_assoc, append-nil}
-use Rattle.std.specs.Prelude.{All, map}
+use Rattle.std.proofs.Common.{◌≡◌, ℕ, nat_lt, List, length, Option, Some, None, refl, ap, ◌∙◌}
+use Rattle.std.specs.Prelude.{All}
 use Rattle.std.specs.FinMap.{get}
 use Rattle.std.proofs.lemmas.Bool.{cond_both, cond-false}
-use Rattle.std.proofs.lemmas.List.Elements.{All-nil, All-cons, All-weaker}
+use Rattle.std.proofs.lemmas.List.Elements.{All-weaker}
 use Rattle.tree_spec.specs.LookAskings.{Sights}
-use Rattle.tree_spec.specs.LookLimits.{look_limits, size_at}
+use Rattle.tree_spec.specs.LookLimits.{look_limits}
 use Rattle.tree_spec.specs.Trees.{Tree}
 use Rattle.tree_spec.specs.declared.Entry.{Entry}
 use Rattle.tree_spec.specs.declared.Entry.TheVariants.{Stored, Directory}
-use Rattle.tree_spec.specs.declared.Look.{Look}
-use Rattle.tree_spec.specs.declared.Look.TheVariants.{Absent, Folder, File, TooLarge}
+use Rattle.tree_spec.specs.declared.Look.TheVariants.{File, TooLarge}
 use Rattle.package_lookup.specs.declared.held.Seen.{Seen}
 use Rattle.package_lookup.specs.declared.held.Seen.TheVariants as seen
 use Rattle.package_lookup.specs.declared.known.Known.{Known}
 use Rattle.package_lookup.specs.LaidTrees.{look_for}
-use Rattle.package_lookup.specs.Looked.{known_at, look_or, Sees, Grows}
+use Rattle.package_lookup.specs.Looked.{look_or, Sees, Grows}
 use Rattle.package_lookup.specs.SeenLooks.{entry_of, look_seen, within_limit, seen_as}
 use Rattle.package_lookup.proofs.Questions.{known_grows}
 use Rattle.kept_spec.specs.Certificates.{LookSeen, AreSeen}

@@ -5,12 +5,12 @@
 --     again_ends, again_fails, again_differs      at the end, where a look fails, and where one sees otherwise
 --     SoFar before whole now rest looks           the looks at the paths before the rest
 --     far_begins, far_goes, far_ends, far_fails, far_lost
-use Rattle.std.proofs.Common.{◌≡◌, ◌≢◌, ℕ, List, [], ◌∷◌, ◌++◌, length, Bool, Option, Some, Result, refl, sym, ap, ◌∙◌, subst, append_assoc, append-nil}
+use Rattle.std.proofs.Common.{◌≡◌, ℕ, List, [], ◌∷◌, ◌++◌, length, Bool, Option, Some, Result, refl, sym, ap, ◌∙◌, subst, append_assoc, append-nil}
 use Rattle.std.specs.Prelude.{All}
 use Rattle.std.specs.Result.{IsErrAnd}
 use Rattle.std.proofs.lemmas.List.Elements.{All-nil, All-cons, All-append}
-use Rattle.tree_spec.specs.LookAskings.{LookAsking, look_at, look_at_each}
-use Rattle.tree_spec.specs.LookLimits.{Trail, begun, look_limits, counted}
+use Rattle.tree_spec.specs.LookAskings.{look_at, look_at_each}
+use Rattle.tree_spec.specs.LookLimits.{Trail, begun}
 use Rattle.tree_spec.specs.declared.Entry.{Entry}
 use Rattle.package_lookup.specs.Answered.{State, state, Answered}
 use Rattle.package_lookup.specs.LaidTrees.{look_for}

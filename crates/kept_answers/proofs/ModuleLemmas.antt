@@ -2,7 +2,7 @@
 --     is_kept              what the table says of a module
 --     source_as            the same of a source that is as this one
 --     put_copy             to keep one more, under a copy of its path, leaves the table right
-use Rattle.std.proofs.Common.{◌≡◌, ℕ, Bool, List, Option, Some, Result, Ok, IfSome, subst, sym}
+use Rattle.std.proofs.Common.{◌≡◌, ℕ, List, Option, Some, Result, Ok, IfSome, subst, sym}
 use Rattle.std.specs.Prelude.{bytes_eq, if◌then◌else◌, OnOk, OnErr}
 use Rattle.tree_spec.proofs.ToldStates.{if_some}
 use Rattle.tree_spec.specs.Trees.{Tree}

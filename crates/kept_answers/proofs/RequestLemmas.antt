@@ -3,7 +3,7 @@
 --     put_request          to keep one more leaves the table right
 --     copied               a copy is as right
 --     right_as, node_as, kept_as      the same under other names
-use Rattle.std.proofs.Common.{◌≡◌, ℕ, Bool, List, Option, Some, Result, Ok, IfSome, subst, sym}
+use Rattle.std.proofs.Common.{◌≡◌, ℕ, List, Option, Some, Result, Ok, IfSome, subst, sym}
 use Rattle.std.specs.Prelude.{if◌then◌else◌, OnOk, OnErr}
 use Rattle.tree_spec.proofs.ToldStates.{if_some}
 use Rattle.tree_spec.specs.Trees.{Tree}
@@ -11,8 +11,6 @@ use Rattle.node_resolve.specs.Places.{module_of}
 use Rattle.node_resolve.specs.declared.found.Found.{Found}
 use Rattle.node_spec.specs.EsmResolve.{node}
 use Rattle.node_spec.specs.NodeAnswers.{Module, Refusal}
-use Rattle.package_lookup.specs.Answered.{State, Answered}
-use Rattle.package_lookup.specs.Responses.{Response}
 use Rattle.kept_spec.specs.Certificates.{LookSeen}
 use Rattle.kept_answers.specs.Entries.{Request, is_request}
 use Rattle.kept_answers.specs.KnownLooks.{IsKept}

@@ -1,14 +1,8 @@
 use Rattle.std.proofs.Common.{Ok, refl, ap, ◌∙◌}
-use Rattle.std.specs.Prelude.{List}
-use Rattle.tree_spec.proofs.ToldStates.{if_some}
-use Rattle.tree_spec.specs.LookAskings.{look_at_each}
 use Rattle.tree_spec.specs.LookLimits.{begun}
 use Rattle.package_lookup.specs.Answered.{state}
-use Rattle.package_lookup.specs.Responses.{looked}
 use Rattle.package_lookup.proofs.Questions.{given_as}
-use Rattle.kept_spec.specs.Certificates.{LookSeen}
-use Rattle.kept_answers.specs.KnownLooks.{done, AreLooksAt, IsKept}
-use Rattle.kept_answers.proofs.Certifying.{kept_by, kept_looks, given_again, failed_again, behind_looks, given_still, failed_behind, lost, no_memory_begun, seen_again, seen_other, failing_of, to_failing, by_failing, failing_by, node_failing}
+use Rattle.kept_answers.proofs.Certifying.{kept_looks, given_again, failed_again, behind_looks, lost, seen_again, seen_other, failing_of, to_failing, node_failing}
 use Rattle.node_resolve.specs.Places.{module_of}
 use Rattle.node_resolve.specs.Responses.{responded}
 use Rattle.node_spec.specs.EsmResolve.{node}
