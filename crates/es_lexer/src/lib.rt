@@ -16,7 +16,6 @@ mod sorts;
 mod spellings;
 mod state;
 mod whole;
-mod words;
 
 pub use characters::begins_line_end;
 pub use lexer::Lexer;

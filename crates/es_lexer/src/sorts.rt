@@ -1,6 +1,7 @@
 ghost use Rattle.std.specs.Prelude.{◌≡◌};
 ghost use Rattle.std.specs.Bool.{OnTrue};
-ghost use Rattle.module_spec.specs.Sorts.{kind_of, opens, closes, same_bracket, is_dot, sort_before_value};
+ghost use Rattle.module_spec.specs.Sorts.{kind_of, opens, closes, same_bracket, is_condition_word};
+ghost use Rattle.module_spec.specs.Sorts.{is_value_word, is_statement_word, word, is_dot, sort_before_value};
 ghost use Rattle.module_spec.specs.Sorts.{word_before_value, mark_before_value, mark_opens, mark_closes};
 ghost use Rattle.module_spec.specs.Sorts.{is_dot_mark, is_condition, is_for, is_await};
 ghost use Rattle.es_lexer.specs.Open.{NoBracket};
@@ -138,6 +139,61 @@ pub fn same_bracket(one: Bracket, other: Bracket) -> bool
         (Bracket::Curly, Bracket::Curly) => true,
         (Bracket::Template, Bracket::Template) => true,
         _ => false,
+    }
+}
+
+fn is_condition_word(text: &[u8]) -> bool
+    ensures { result ≡ is_condition_word text.now }
+{
+    text == b"if".as_slice() || text == b"while".as_slice() || text == b"with".as_slice()
+}
+
+fn is_value_word(text: &[u8]) -> bool
+    ensures { result ≡ is_value_word text.now }
+{
+    text == b"case".as_slice()
+        || text == b"default".as_slice()
+        || text == b"delete".as_slice()
+        || text == b"extends".as_slice()
+        || text == b"in".as_slice()
+        || text == b"instanceof".as_slice()
+        || text == b"new".as_slice()
+        || text == b"return".as_slice()
+        || text == b"throw".as_slice()
+        || text == b"typeof".as_slice()
+        || text == b"void".as_slice()
+        || text == b"yield".as_slice()
+}
+
+fn is_statement_word(text: &[u8]) -> bool
+    ensures { result ≡ is_statement_word text.now }
+{
+    text == b"break".as_slice()
+        || text == b"continue".as_slice()
+        || text == b"debugger".as_slice()
+        || text == b"do".as_slice()
+        || text == b"else".as_slice()
+}
+
+/// What a name says of what stands behind it.
+#[tactic(auto, unfolding(module_spec::specs::Sorts::word))]
+pub fn word(text: &[u8]) -> Word
+    ensures { result ≡ word text.now }
+{
+    if is_condition_word(text) {
+        Word::Condition
+    } else if text == b"for".as_slice() {
+        Word::For
+    } else if text == b"await".as_slice() {
+        Word::Await
+    } else if text == b"of".as_slice() {
+        Word::Of
+    } else if is_value_word(text) {
+        Word::Value
+    } else if is_statement_word(text) {
+        Word::Statement
+    } else {
+        Word::Other
     }
 }
 

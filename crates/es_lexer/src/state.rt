@@ -9,9 +9,8 @@ ghost use Rattle.es_lexer.specs.Open.{word_around, mark_around, sort_around};
 ghost use Rattle.es_lexer.specs.State.{Follows, no_last};
 
 use crate::sorts::{
-    closes, is_await, is_condition, is_dot, is_for, is_no_bracket, opens, sort_before_value,
+    closes, is_await, is_condition, is_dot, is_for, is_no_bracket, opens, sort_before_value, word,
 };
-use crate::words::word;
 use module_spec::{Bracket, Mark, Sort, Word};
 
 /// What is kept of the last tokens. What few tokens ask of them is found when one asks.

@@ -7,6 +7,9 @@ pub mod RequestNumbers
 pub mod Nameless
 pub mod MapPaths
 pub mod Strictnesses
+pub mod StrictExamples
+pub mod Reaching
+pub mod Agreements
 pub mod Refusals
 pub mod Vendorings
 pub mod Outcomes
@@ -15,3 +18,4 @@ pub mod Endings
 pub mod ToldLines
 pub mod Meetings
 pub mod KeptPromises
+pub mod CheckAnswers

@@ -1,5 +1,5 @@
 -- Paths of files in the root.
-use Rattle.std.proofs.Common.{◌≤◌, ℕ, List, ◌∷◌, codes, refl, lit≤}
+use Rattle.std.proofs.Common.{ℕ, List, ◌∷◌, codes, refl, lit≤}
 use Rattle.tree_spec.specs.Paths.{IsSegment, IsPath, IsParent, root}
 use Rattle.url_spec.proofs.PathDecisions.{path_by_test, segment_by_test}
 use Rattle.generator_spec.specs.Commands.{map_path}

@@ -17,7 +17,7 @@ use Rattle.generator_spec.proofs.Outcomes.{checked_or_other, one_outcome, one_st
 use Rattle.generator_spec.proofs.Strictnesses.{checking_or_generating, says_checking}
 use Rattle.generator_spec.proofs.Endings.{HasOutcomeIn, one_line_text}
 
-told_there : (P : Tree → Type 0) (held : Option Tree) (tree : Tree) → held ≡ Some tree → IfSome held P → P tree
+pub told_there : (P : Tree → Type 0) (held : Option Tree) (tree : Tree) → held ≡ Some tree → IfSome held P → P tree
 told_there P None tree e h = absurd (cc)
 told_there P (Some other) tree e h = let same : other ≡ tree = cc in subst P same h
 

@@ -375,7 +375,7 @@ one_run_refusal words tree why because (runs.by_copies to config map reason asks
     (subst (λ c. RefusesCopies tree to (generation_paths tree c) because) (sym configs)
     (subst (λ path. RefusesCopies tree path (generation_paths tree second) because) (sym folders) too))
 
-config_is_plain : (words : List (List ℕ)) (tree : Tree) (command : Command) (config : Config) → IsConfigOf words tree command config → IsPlain words
+pub config_is_plain : (words : List (List ℕ)) (tree : Tree) (command : Command) (config : Config) → IsConfigOf words tree command config → IsPlain words
 config_is_plain words tree command config is = command_is_plain words command (command_is words tree command (Ok config) is)
 
 run_is_plain : (words : List (List ℕ)) (tree : Tree) (why : Refusal) → RefusesRun words tree why → IsPlain words

@@ -40,7 +40,7 @@ use Rattle.generator_spec.specs.Checking.{SaysOfModules, SaysOfModules as says}
 use Rattle.generator_spec.specs.Generation.{Generates, IsTooWide, IsTooLarge}
 use Rattle.generator_spec.specs.Strictness.{AreSaid, IsNested}
 use Rattle.generator_spec.proofs.Generations.{same_trace, nothing_refused}
-use Rattle.generator_spec.proofs.Strictnesses.{checking_or_generating, one_answers}
+use Rattle.generator_spec.proofs.Strictnesses.{checking_or_generating, none_nested, one_answers}
 
 -- ---- pages
 
@@ -259,14 +259,14 @@ module _ (tree : Tree) (config : Config) where
   refused_or_checked command why map all strict says.unasked (refuses.trace same fault before e) holds traces = traced_or_refused fault all traces e
   refused_or_checked command why map all strict says.unasked (refuses.many_choices same generating before wide) holds traces = generating
   refused_or_checked command why map all strict says.unasked (refuses.large_map same generating before large) holds traces = generating
-  refused_or_checked command why map all strict (says.strictly answers are none) (refuses.map_file same fault checks is) holds traces = no_map_text fault holds.text map is holds.stands holds.reads
-  refused_or_checked command why map all strict (says.strictly answers are none) (refuses.trace same fault before e) holds traces = traced_or_refused fault all traces e
-  refused_or_checked command why map all strict (says.strictly answers are none) (refuses.many_choices same generating before wide) holds traces = generating
-  refused_or_checked command why map all strict (says.strictly answers are none) (refuses.large_map same generating before large) holds traces = generating
-  refused_or_checked command why map all strict (says.strictly answers are none) (refuses.nested map_too all_too answers_too holds_too traces_too are_too deep) holds traces =
+  refused_or_checked command why map all strict (says.strictly answers lines are lines_are) (refuses.map_file same fault checks is) holds traces = no_map_text fault holds.text map is holds.stands holds.reads
+  refused_or_checked command why map all strict (says.strictly answers lines are lines_are) (refuses.trace same fault before e) holds traces = traced_or_refused fault all traces e
+  refused_or_checked command why map all strict (says.strictly answers lines are lines_are) (refuses.many_choices same generating before wide) holds traces = generating
+  refused_or_checked command why map all strict (says.strictly answers lines are lines_are) (refuses.large_map same generating before large) holds traces = generating
+  refused_or_checked command why map all strict (says.strictly answers lines are lines_are) (refuses.nested map_too all_too answers_too holds_too traces_too are_too deep) holds traces =
       let same = same_trace (traced (get tree) config) all_too all traces_too traces in
       let answers_same = one_answers all.sources answers_too answers (subst (λ (g : Gathered). AreSaid g.sources answers_too) same are_too) are in
-      none (subst IsNested answers_same deep)
+      none_nested all.modules answers lines lines_are (subst IsNested answers_same deep)
 
   pub refused_or_listed : (why : Refusal) (all : Gathered) → Refuses tree config Lists why → traced (get tree) config ≡ Ok all → ⊥
   refused_or_listed why all (refuses.map_file _ fault checks is) traces = elim checks [ ]

@@ -1,9 +1,7 @@
 -- A command over a tree has an outcome.
-use Rattle.std.proofs.Common.{◌≡◌, ◌⊎◌, ℕ, List, [], ◌∷◌, length, Option, Some, Result, Ok, Err, codes, refl, sym, ap, ◌∙◌, subst, inl, inr, arith, ◌≢◌, None, true≢false}
+use Rattle.std.proofs.Common.{◌≡◌, ◌⊎◌, ℕ, List, [], ◌∷◌, length, Option, Some, Result, Ok, Err, codes, refl, ap, ◌∙◌, subst, inl, inr, arith, ◌≢◌, None}
 use Rattle.std.specs.Prelude.{◌++◌}
 use Rattle.std.specs.FinMap.{get, insert}
-use Rattle.std.specs.List.{list_any}
-use Rattle.std.proofs.lemmas.Bool.{cases_Bool}
 use Rattle.tree_spec.specs.declared.Entry.{Entry}
 use Rattle.tree_spec.specs.declared.Entry.TheVariants.{Stored, Directory}
 use Rattle.tree_spec.specs.declared.LimitName.TheVariants.{Map, Choices}
@@ -12,7 +10,6 @@ use Rattle.tree_spec.specs.Trees.{Tree, IsTree}
 use Rattle.tree_spec.proofs.Insertion.{get_other}
 use Rattle.tree_spec.proofs.PathsAbove.{above_by_parent, nothing_above_root}
 use Rattle.tree_spec.proofs.Placings.{inserted_places, folders_above}
-use Rattle.grammar_spec.specs.declared.answer.Strict.{Strict}
 use Rattle.import_map_spec.specs.ParsedMap.{ParsedMap}
 use Rattle.trace_spec.specs.declared.TraceFault.{TraceFault}
 use Rattle.trace_spec.specs.Modules.{Config}
@@ -28,7 +25,7 @@ use Rattle.config_spec.specs.declared.Command.TheVariants.{Link, Unlink, Refresh
 use Rattle.config_spec.specs.declared.Command.TheVariants.{List as Lists}
 use Rattle.generator_spec.specs.declared.Refusal.{Refusal}
 use Rattle.generator_spec.specs.declared.Refusal.TheVariants.{Trace, Limit, Config as Configured, Occupied, PathTooLong, TooManySegments, NestedTooDeep}
-use Rattle.generator_spec.specs.Checking.{difference_lines, check_status, check_lines, SaysOfModules, SaysOfModules as says, strict_lines}
+use Rattle.generator_spec.specs.Checking.{difference_lines, check_status, check_lines, SaysOfModules, SaysOfModules as says}
 use Rattle.generator_spec.specs.Listing.{list_lines}
 use Rattle.generator_spec.specs.Commands.{IsChecking, IsChecking as checking, IsGenerating, map_path, HoldsMap, Opens, IsMapping as mapping, Opens as opens, Refuses, Refuses as refuses}
 use Rattle.generator_spec.specs.Commands.{NewFile, new_file, map_and_project, Writes, Writes as writes}
@@ -39,7 +36,6 @@ use Rattle.workload_spec.specs.Packages.{tree_of}
 use Rattle.config_spec.specs.Projects.{IsConfigOf, measure_config, project_path}
 use Rattle.generator_spec.specs.CopiedMaps.{generation_paths}
 use Rattle.generator_spec.specs.Lines.{status_of, line_of, done_line, measured_line, vendored_line}
-use Rattle.generator_spec.specs.Strictness.{AreSaid, is_nested}
 use Rattle.generator_spec.specs.Outcome.{FilesPlaced, RefusesRun, RefusesRun as runs}
 use Rattle.generator_spec.specs.Outcome.ComesTo.{not_plain, refused, written, checked, listed, explained, vendored, measured}
 use Rattle.generator_spec.specs.Vendoring.{copied_files, IsBlocked, RefusesCopies, RefusesCopies as copies, Vendors}
@@ -50,7 +46,7 @@ use Rattle.generator_spec.proofs.Generations.{some_generation}
 use Rattle.generator_spec.proofs.MapPaths.{map_in_root, project_in_root}
 use Rattle.generator_spec.proofs.Nameless.{traced_is_named}
 use Rattle.generator_spec.proofs.Refusals.{Refused, opened_or_refused}
-use Rattle.generator_spec.proofs.Strictnesses.{some_answers}
+use Rattle.generator_spec.proofs.Strictnesses.{some_saying}
 use Rattle.generator_spec.proofs.Vendorings.{files_placed}
 
 record CanWrite (tree : Tree) (command : Command) (config : Config) (map : List ℕ) : Type 0 where
@@ -140,21 +136,13 @@ module _ (words : List (List ℕ)) (tree : Tree) (is_tree : IsTree tree) (unbloc
       outcome = record { files = []; comes = checked command config map all strict is holds e says_so refl refl refl; placed = refl };
     }
 
-  by_answers :
-      (config : Config) → IsConfigOf words tree CheckStrictly config → (map : ParsedMap) → HoldsMap tree config map
-      → (all : Gathered) → traced (get tree) config ≡ Ok all → (answers : List Strict) → AreSaid all.sources answers
-      → HasOutcome words tree
-  by_answers config is map holds all e answers are =
-      elim (cases_Bool (list_any is_nested answers)) [
-        | inl deep ↦ by_refusal CheckStrictly config is NestedTooDeep (refuses.nested map all answers holds e are deep)
-        | inr shallow ↦ by_saying CheckStrictly config is map holds all e (strict_lines all.modules answers)
-            (says.strictly answers are (λ deep. true≢false (sym deep ∙ shallow)))
-      ]
-
   by_check : (command : Command) → IsChecking command → (config : Config) → IsConfigOf words tree command config → (map : ParsedMap) → HoldsMap tree config map → (all : Gathered) → traced (get tree) config ≡ Ok all → HasOutcome words tree
   by_check command checking.plainly config is map holds all e = by_saying command config is map holds all e [] says.unasked
   by_check command checking.strictly config is map holds all e =
-      let found = some_answers (get tree) config all e in by_answers config is map holds all e found.0 found.1
+      elim (some_saying (get tree) config all e) [
+        | inl said ↦ by_saying CheckStrictly config is map holds all e said.0 said.1
+        | inr deep ↦ by_refusal CheckStrictly config is NestedTooDeep (refuses.nested map all deep.0 holds e deep.1 deep.2)
+      ]
 
   by_list : (config : Config) → IsConfigOf words tree Lists config → (all : Gathered) → traced (get tree) config ≡ Ok all → HasOutcome words tree
   by_list config is all e = record {

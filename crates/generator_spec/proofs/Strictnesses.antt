@@ -1,5 +1,5 @@
 -- Of a trace's modules one thing is said beside the map, and there is such a thing.
-use Rattle.std.proofs.Common.{◌≡◌, ◌⊎◌, ◌&&◌, ◌==◌, ◌++◌, ℕ, Bool, true, false, bytes_eq, List, [], ◌∷◌, map, Option, Some, Result, Ok, Err, refl, sym, ap, ◌∙◌, subst, inl, inr, true≢false, arith}
+use Rattle.std.proofs.Common.{◌≡◌, ◌⊎◌, ◌&&◌, ◌==◌, ◌++◌, ℕ, Bool, false, bytes_eq, List, [], ◌∷◌, map, Option, Some, Result, Ok, refl, sym, ap, ◌∙◌, subst, inl, inr, true≢false, arith}
 use Rattle.std.specs.Prelude.{All}
 use Rattle.std.specs.FinMap.{get}
 use Rattle.std.specs.Bool.{Decides}
@@ -27,9 +27,11 @@ use Rattle.trace_spec.specs.Modules.{Config, Module}
 use Rattle.trace_spec.specs.Questions.{Source}
 use Rattle.trace_spec.specs.Traces.{source, traced}
 use Rattle.config_spec.specs.declared.Command.{Command}
+use Rattle.config_spec.specs.declared.Command.TheVariants.{CheckStrictly}
 use Rattle.generator_spec.specs.Commands.{IsChecking, IsChecking as checking, IsGenerating}
-use Rattle.generator_spec.specs.Checking.{difference_line, SaysOfModules, SaysOfModules as says, strict_line, strict_lines, check_status}
+use Rattle.generator_spec.specs.Checking.{difference_line, SaysOfModules, SaysOfModules as says, AreLined, AreLined as lined, check_status}
 use Rattle.generator_spec.specs.Laws.{ChecksAreExact}
+use Rattle.generator_spec.specs.Lines.{strict_syntax_line, strict_requests_line}
 use Rattle.generator_spec.specs.Strictness.{IsSaid, AreSaid, AreSaid as said, is_nested, IsNested, ModulesAgree, ModulesAgree as agrees}
 use Rattle.generator_spec.proofs.Generations.{same_trace}
 
@@ -41,7 +43,7 @@ checking_or_generating command checking.strictly generating = generating
 
 pub says_checking : (all : Gathered) (command : Command) (strict : List (List ℕ)) → SaysOfModules all command strict → IsChecking command
 says_checking all command strict says.unasked = checking.plainly
-says_checking all command strict (says.strictly answers are none) = checking.strictly
+says_checking all command strict (says.strictly answers lines are lines_are) = checking.strictly
 
 -- ---- one at most
 
@@ -73,10 +75,27 @@ one_answers (first ∷ sources) (some ∷ rest) (other ∷ others) (said.one_mor
     let rests = one_answers sources rest others are more in
     (λ i. firsts i ∷ rests i)
 
+one_lines : (modules : List Module) (answers : List Strict) (some other : List (List ℕ)) → AreLined modules answers some → AreLined modules answers other → some ≡ other
+one_lines modules answers some other lined.none lined.none = refl
+one_lines _ _ _ _ (lined.agrees {m} {modules} {answers} {lines} are) (lined.agrees {lines = others} more) =
+    one_lines modules answers lines others are more
+one_lines _ _ _ _ (lined.syntax {m} {modules} {answers} {lines} at are) (lined.syntax {lines = others} _ more) =
+    ap (λ ls. strict_syntax_line (m.path ++ m.suffix) at ∷ ls) (one_lines modules answers lines others are more)
+one_lines _ _ _ _ (lined.differs {m} {modules} {answers} {lines} found outline are) (lined.differs {lines = others} _ _ more) =
+    ap (λ ls. strict_requests_line (m.path ++ m.suffix) ∷ ls) (one_lines modules answers lines others are more)
+
 pub one_saying : (all : Gathered) (command : Command) (some other : List (List ℕ)) → SaysOfModules all command some → SaysOfModules all command other → some ≡ other
 one_saying all command some other says.unasked says.unasked = refl
-one_saying all command some other (says.strictly answers are none) (says.strictly answers_too are_too none_too) =
-    ap (strict_lines all.modules) (one_answers all.sources answers answers_too are are_too)
+one_saying all command some other (says.strictly answers lines are lines_are) (says.strictly answers_too others are_too others_are) =
+    let same = one_answers all.sources answers answers_too are are_too in
+    one_lines all.modules answers lines others lines_are (subst (λ a. AreLined all.modules a others) (sym same) others_are)
+
+-- what has lines isn't nested too deep
+pub none_nested : (modules : List Module) (answers : List Strict) (lines : List (List ℕ)) → AreLined modules answers lines → IsNested answers → ⊥
+none_nested modules answers lines lined.none deep = true≢false (sym deep)
+none_nested _ _ _ (lined.agrees {m} {modules} {answers} {lines} are) deep = none_nested modules answers lines are deep
+none_nested _ _ _ (lined.syntax {m} {modules} {answers} {lines} at are) deep = none_nested modules answers lines are deep
+none_nested _ _ _ (lined.differs {m} {modules} {answers} {lines} found outline are) deep = none_nested modules answers lines are deep
 
 -- ---- some
 
@@ -113,7 +132,7 @@ some_said text outline reads =
     let answer = some_strict outline verdict.0 in
     (answer.0, record { outline = outline; is_outline = reads; verdict = verdict.0; reads = verdict.1; is = answer.1 })
 
-first_source : (first : Option Source) (own : Source) (firsts : List (Option Source)) (sources : List Source) → map Some (own ∷ sources) ≡ first ∷ firsts → (first ≡ Some own) × (map Some sources ≡ firsts)
+pub first_source : (first : Option Source) (own : Source) (firsts : List (Option Source)) (sources : List Source) → map Some (own ∷ sources) ≡ first ∷ firsts → (first ≡ Some own) × (map Some sources ≡ firsts)
 first_source first own firsts sources e = (cc, cc)
 
 answers_of : (sights : Sights) (modules : List Module) (sources : List Source) → map Some sources ≡ map (source sights) modules → (answers : List Strict) × AreSaid sources answers
@@ -131,50 +150,80 @@ answers_of sights (m ∷ modules) (own ∷ sources) same =
 pub some_answers : (sights : Sights) (config : Config) (all : Gathered) → traced sights config ≡ Ok all → (answers : List Strict) × AreSaid all.sources answers
 some_answers sights config all e = answers_of sights all.modules all.sources (goes_in_order sights config all e).sources
 
+lines_of :
+    (sights : Sights) (modules : List Module) (sources : List Source) (answers : List Strict)
+    → map Some sources ≡ map (source sights) modules → AreSaid sources answers → list_any is_nested answers ≡ false
+    → (lines : List (List ℕ)) × AreLined modules answers lines
+lines_of sights [] [] [] same said.none shallow = ([], lined.none)
+lines_of sights modules [] (answer ∷ answers) same are shallow = elim are [ ]
+lines_of sights modules (own ∷ sources) [] same are shallow = elim are [ ]
+lines_of sights (m ∷ modules) [] answers same are shallow = absurd (cc)
+lines_of sights [] (own ∷ sources) (answer ∷ answers) same are shallow = absurd (cc)
+lines_of sights (m ∷ modules) (own ∷ sources) (answer ∷ answers) same (said.one_more is are) shallow =
+    let parts = first_source (source sights m) own (map (source sights) modules) sources same in
+    by answer shallow (λ none. lines_of sights modules sources answers parts.1 are none)
+  where
+    by :
+        (found : Strict) → list_any is_nested (found ∷ answers) ≡ false
+        → (list_any is_nested answers ≡ false → (lines : List (List ℕ)) × AreLined modules answers lines)
+        → (lines : List (List ℕ)) × AreLined (m ∷ modules) (found ∷ answers) lines
+    by Agrees none more = let rest = more none in (rest.0, lined.agrees rest.1)
+    by (Syntax at) none more = let rest = more none in (strict_syntax_line (m.path ++ m.suffix) at ∷ rest.0, lined.syntax at rest.1)
+    by (Differs found outline) none more =
+        let rest = more none in
+        (strict_requests_line (m.path ++ m.suffix) ∷ rest.0, lined.differs found outline rest.1)
+    by TooDeep none more = absurd (true≢false none)
+
+-- where there is a trace, something is said of its modules, or one of them is nested too deep
+pub some_saying :
+    (sights : Sights) (config : Config) (all : Gathered) → traced sights config ≡ Ok all
+    → ((strict : List (List ℕ)) × SaysOfModules all CheckStrictly strict)
+    ⊎ ((answers : List Strict) × AreSaid all.sources answers × IsNested answers)
+some_saying sights config all e =
+    let found = some_answers sights config all e in
+    elim (cases_Bool (list_any is_nested found.0)) [
+      | inl deep ↦ inr (found.0, found.1, deep)
+      | inr shallow ↦
+          let lines = lines_of sights all.modules all.sources found.0 (goes_in_order sights config all e).sources found.1 shallow in
+          inl (lines.0, says.strictly found.0 lines.0 found.1 lines.1)
+    ]
+
 -- ---- a check that is done
 
-abbrev Agreeing : Source → Type 0
+abbrev pub Agreeing : Source → Type 0
 Agreeing own = IsSaid own.bytes Agrees
 
--- where no module has a line, and none is nested too deep, each agrees
-all_agree :
-    (sights : Sights) (modules : List Module) (sources : List Source) (answers : List Strict)
-    → map Some sources ≡ map (source sights) modules → AreSaid sources answers → strict_lines modules answers ≡ []
-    → (IsNested answers → ⊥) → All Agreeing sources
-all_agree sights modules [] [] same said.none none shallow = All-nil Agreeing
-all_agree sights modules [] (answer ∷ answers) same are none shallow = elim are [ ]
-all_agree sights [] (own ∷ sources) [] same are none shallow = elim are [ ]
-all_agree sights (m ∷ modules) (own ∷ sources) [] same are none shallow = elim are [ ]
-all_agree sights [] (own ∷ sources) (answer ∷ answers) same (said.one_more is are) none shallow = absurd (cc)
-all_agree sights (m ∷ modules) (own ∷ sources) (Agrees ∷ answers) same (said.one_more is are) none shallow =
-    All-cons Agreeing own sources is
-    (all_agree sights modules sources answers (first_source (source sights m) own (map (source sights) modules) sources same).1 are none shallow)
-all_agree sights (m ∷ modules) (own ∷ sources) (Syntax at ∷ answers) same (said.one_more is are) none shallow = absurd (cc)
-all_agree sights (m ∷ modules) (own ∷ sources) (Differs found outline ∷ answers) same (said.one_more is are) none shallow = absurd (cc)
-all_agree sights (m ∷ modules) (own ∷ sources) (TooDeep ∷ answers) same (said.one_more is are) none shallow = absurd (shallow refl)
+-- where no module has a line, each agrees
+all_agree : (modules : List Module) (sources : List Source) (answers : List Strict) (lines : List (List ℕ)) → AreSaid sources answers → AreLined modules answers lines → lines ≡ [] → All Agreeing sources
+all_agree modules sources answers lines said.none are none = All-nil Agreeing
+all_agree _ _ _ lines (said.one_more {source = own} {sources} {answers = answers} is are) (lined.agrees {m} {modules} more) none =
+    All-cons Agreeing own sources is (all_agree modules sources answers lines are more none)
+all_agree _ _ _ lines (said.one_more is are) (lined.syntax at more) none = absurd (cc)
+all_agree _ _ _ lines (said.one_more is are) (lined.differs found outline more) none = absurd (cc)
 
 -- and where each agrees, none has a line
-no_strict_lines : (modules : List Module) (sources : List Source) (answers : List Strict) → AreSaid sources answers → All Agreeing sources → strict_lines modules answers ≡ []
-no_strict_lines [] sources answers are agree = refl
-no_strict_lines (m ∷ modules) [] [] said.none agree = refl
-no_strict_lines (m ∷ modules) [] (answer ∷ answers) are agree = elim are [ ]
-no_strict_lines (m ∷ modules) (own ∷ sources) [] are agree = elim are [ ]
-no_strict_lines (m ∷ modules) (own ∷ sources) (answer ∷ answers) (said.one_more is are) agree =
-    let first : answer ≡ Agrees = one_said own.bytes answer Agrees is (All-head Agreeing own sources agree) in
-    ap (λ a. strict_line (m.path ++ m.suffix) a ++ strict_lines modules answers) first
-    ∙ no_strict_lines modules sources answers are (All-tail Agreeing own sources agree)
+no_strict_lines : (modules : List Module) (sources : List Source) (answers : List Strict) (lines : List (List ℕ)) → AreSaid sources answers → AreLined modules answers lines → All Agreeing sources → lines ≡ []
+no_strict_lines modules sources answers lines said.none lined.none agree = refl
+no_strict_lines _ _ _ lines (said.one_more {source = own} {sources} {answers = answers} is are) (lined.agrees {m} {modules} more) agree =
+    no_strict_lines modules sources answers lines are more (All-tail Agreeing own sources agree)
+no_strict_lines _ _ _ lines (said.one_more {source = own} {sources} is are) (lined.syntax at more) agree =
+    let bad : Syntax at ≡ Agrees = one_said own.bytes (Syntax at) Agrees is (All-head Agreeing own sources agree) in
+    absurd (cc)
+no_strict_lines _ _ _ lines (said.one_more {source = own} {sources} is are) (lined.differs found outline more) agree =
+    let bad : Differs found outline ≡ Agrees = one_said own.bytes (Differs found outline) Agrees is (All-head Agreeing own sources agree) in
+    absurd (cc)
 
 module _ (tree : Tree) (config : Config) (all : Gathered) (e : traced (get tree) config ≡ Ok all) where
   agree_without_lines : (command : Command) (strict : List (List ℕ)) → SaysOfModules all command strict → strict ≡ [] → ModulesAgree tree config command
   agree_without_lines command strict says.unasked none = agrees.unasked
-  agree_without_lines command strict (says.strictly answers are shallow) none =
-      agrees.agreeing all e (all_agree (get tree) all.modules all.sources answers (goes_in_order (get tree) config all e).sources are none shallow)
+  agree_without_lines command strict (says.strictly answers lines are lines_are) none =
+      agrees.agreeing all e (all_agree all.modules all.sources answers lines are lines_are none)
 
   no_lines_where_agree : (command : Command) (strict : List (List ℕ)) → SaysOfModules all command strict → ModulesAgree tree config command → strict ≡ []
   no_lines_where_agree command strict says.unasked agree = refl
-  no_lines_where_agree command strict (says.strictly answers are shallow) (agrees.agreeing found traces agree) =
+  no_lines_where_agree command strict (says.strictly answers lines are lines_are) (agrees.agreeing found traces agree) =
       let same = same_trace (traced (get tree) config) found all traces e in
-      no_strict_lines all.modules all.sources answers are (subst (λ (g : Gathered). All Agreeing g.sources) same agree)
+      no_strict_lines all.modules all.sources answers lines are lines_are (subst (λ (g : Gathered). All Agreeing g.sources) same agree)
 
 done_before : (all : Gathered) (ds : List Difference) (strict : List (List ℕ)) → check_status (map (difference_line all) ds ++ strict) ≡ 0 → (ds ≡ []) × (check_status strict ≡ 0)
 done_before all [] strict zero = (refl, zero)

@@ -1,10 +1,9 @@
 -- What is copied into a folder is one list of files, which are written or refused in one way.
-use Rattle.std.proofs.Common.{◌≡◌, ◌≢◌, ◌++◌, ℕ, List, [], ◌∷◌, Option, Some, None, refl, sym, ap, ◌∙◌, subst}
+use Rattle.std.proofs.Common.{◌≡◌, ◌++◌, ℕ, List, [], ◌∷◌, Option, Some, None, refl, sym, subst}
 use Rattle.std.specs.FinMap.{get}
 use Rattle.std.specs.Prelude.{All, Bool, Contains, IfSome, if◌then◌else◌, true, false}
 use Rattle.std.proofs.lemmas.List.Elements.{All-nil, All-cons}
 use Rattle.tree_spec.proofs.Contained.{contains_here, contains_there}
-use Rattle.tree_spec.specs.declared.Entry.TheVariants.{Stored}
 use Rattle.tree_spec.specs.Paths.{IsPath}
 use Rattle.tree_spec.specs.Trees.{Tree}
 use Rattle.trace_spec.specs.Modules.{Config}
@@ -14,7 +13,7 @@ use Rattle.config_spec.specs.declared.Command.{Command}
 use Rattle.config_spec.specs.declared.Command.TheVariants.{Vendor, List as Lists, Why}
 use Rattle.config_spec.specs.Projects.{IsConfigOf}
 use Rattle.config_spec.specs.Words.{VendorsTo, command_of, is_page_path}
-use Rattle.vendor_spec.proofs.Plans.{one_plan, plan_fits}
+use Rattle.vendor_spec.proofs.Plans.{plan_fits}
 use Rattle.vendor_spec.proofs.Writes.{goals_behind, placed_at}
 use Rattle.vendor_spec.specs.Vendored.{Pair, IsPlan, Written, goals, nothing, one_more}
 use Rattle.generator_spec.specs.declared.Refusal.{Refusal}

@@ -1,5 +1,5 @@
 -- The laws of generation, checks, outcomes and ends. Each is the contract of a function of this crate.
-use Rattle.std.specs.Prelude.{◌≡◌, ◌⊎◌, ◌↔◌, ◌++◌, ℕ, List, [], map, Some, Ok, Err}
+use Rattle.std.specs.Prelude.{◌≡◌, ◌≢◌, ◌⊎◌, ◌↔◌, ◌++◌, ℕ, List, [], map, Some, Ok, Err}
 use Rattle.std.specs.FinMap.{get}
 use Rattle.tree_spec.specs.States.{FolderState, SinkState}
 use Rattle.tree_spec.specs.Trees.{Tree, IsTree}
@@ -12,18 +12,22 @@ use Rattle.trace_spec.specs.declared.TraceFault.{TraceFault}
 use Rattle.trace_spec.specs.Modules.{Config, Module}
 use Rattle.trace_spec.specs.Checks.{Gathered}
 use Rattle.trace_spec.specs.Traces.{leads, specifiers, traced}
+use Rattle.trace_spec.specs.Walking.{a_module}
 use Rattle.config_spec.specs.declared.Command.{Command}
+use Rattle.config_spec.specs.declared.Command.TheVariants.{CheckStrictly}
 use Rattle.config_spec.specs.Words.{IsPlain, IsSession}
+use Rattle.generator_spec.specs.CheckAnswers.{IsCheckOf, IsShallow, AnswersCheck}
 use Rattle.generator_spec.specs.Checking.{difference_lines, SaysOfModules, check_status}
 use Rattle.generator_spec.specs.Digests.{with_digests}
 use Rattle.generator_spec.specs.Explaining.{asked_by, referrer_of}
 use Rattle.generator_spec.specs.Generation.{Generates, IsTooWide, IsTooLarge, map_base}
 use Rattle.generator_spec.specs.Outcome.{Outcome}
-use Rattle.generator_spec.specs.Statuses.{done_status}
-use Rattle.generator_spec.specs.Strictness.{ModulesAgree}
+use Rattle.generator_spec.specs.Serves.{Reachable}
+use Rattle.generator_spec.specs.Statuses.{done_status, memory_status}
+use Rattle.generator_spec.specs.Strictness.{ModulesAgree, AgreesAt}
 use Rattle.generator_spec.specs.Vendoring.{IsBlocked}
 use Rattle.generator_spec.specs.Ending.{EndsAs}
-use Rattle.generator_spec.specs.Promises.{Promises}
+use Rattle.generator_spec.specs.Promises.{Promises, Quiet}
 
 -- ---- generation
 
@@ -64,6 +68,23 @@ ChecksAreExact =
     → traced (get tree) config ≡ Ok all → SaysOfModules all command strict
     → (check_status (difference_lines held all ++ strict) ≡ done_status)
     ↔ ((differences held all.needs ≡ []) × ModulesAgree tree config command)
+
+-- where there is a trace, its modules agree exactly where the file of each module does that the page reaches
+abbrev pub AgreesWhereReached : Type 0
+AgreesWhereReached =
+    (tree : Tree) (config : Config) (all : Gathered) → traced (get tree) config ≡ Ok all
+    → ModulesAgree tree config CheckStrictly
+    ↔ ((m : Module) → Reachable tree config (a_module m) → AgreesAt tree m)
+
+-- where there is a map and a trace, and no module is nested too deep that is checked, a run that counted no fault and
+-- had memory answers as a check does
+abbrev pub ChecksAnswer : Type 0
+ChecksAnswer =
+    (words : List (List ℕ)) (before after : FolderState) (out out_after : SinkState) (result : ℕ)
+    → EndsAs words before after out out_after result → Quiet before after out out_after → result ≢ memory_status
+    → (tree : Tree) (command : Command) (config : Config) (held : ParsedMap) (all : Gathered)
+    → IsCheckOf words before tree command config held all → IsShallow all command
+    → AnswersCheck tree command config held all after out out_after result
 
 -- ---- chains
 

@@ -16,4 +16,6 @@ pub mod Asked
 pub mod Steps
 pub mod Ending
 pub mod Promises
+pub mod CheckAnswers
+pub mod WorkedExamples
 pub mod Laws

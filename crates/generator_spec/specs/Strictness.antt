@@ -4,16 +4,18 @@
 --     is_nested answer            the module is nested too deep
 --     IsNested answers            some module is
 --     ModulesAgree tree config command      where the command checks strictly, each module agrees
-use Rattle.std.specs.Prelude.{◌≡◌, ℕ, Bool, true, false, List, [], ◌∷◌, All, Ok}
+--     AgreesAt tree m             the file at a module's path does
+use Rattle.std.specs.Prelude.{◌≡◌, ℕ, Bool, true, false, List, [], ◌∷◌, All, Some, Ok}
 use Rattle.std.specs.FinMap.{get}
 use Rattle.std.specs.List.{list_any}
+use Rattle.tree_spec.specs.declared.Entry.TheVariants.{Stored}
 use Rattle.tree_spec.specs.Trees.{Tree}
 use Rattle.module_spec.specs.Outlines.{Outline, ReadsOutline}
 use Rattle.grammar_spec.specs.declared.answer.Strict.{Strict}
 use Rattle.grammar_spec.specs.declared.answer.Strict.TheVariants.{Agrees, Syntax, Differs, TooDeep}
 use Rattle.grammar_spec.specs.Verdicts.{Verdict, ReadsGrammar, IsStrict}
 use Rattle.trace_spec.specs.Checks.{Gathered}
-use Rattle.trace_spec.specs.Modules.{Config}
+use Rattle.trace_spec.specs.Modules.{Config, Module}
 use Rattle.trace_spec.specs.Questions.{Source}
 use Rattle.trace_spec.specs.Traces.{traced}
 use Rattle.config_spec.specs.declared.Command.{Command}
@@ -48,3 +50,9 @@ pub data ModulesAgree (tree : Tree) (config : Config) : Command → Type 0 where
   agreeing :
       (all : Gathered) → traced (get tree) config ≡ Ok all
       → All (λ (source : Source). IsSaid source.bytes Agrees) all.sources → ModulesAgree tree config CheckStrictly
+
+-- own: the statement grammar matches the file at its path, with the requests of its outline
+pub record AgreesAt (tree : Tree) (m : Module) : Type 0 where
+  pub bytes : List ℕ
+  pub stands : get tree m.path ≡ Some (Stored bytes)
+  pub said : IsSaid bytes Agrees

@@ -2,8 +2,10 @@
 //! the contracts of functions that do nothing.
 #![tactic(auto)]
 
-ghost use Rattle.generator_spec.specs.Laws.{OneGeneration, SomeGeneration, NothingRefused, ChecksAreExact};
+ghost use Rattle.generator_spec.specs.Laws.{AgreesWhereReached, ChecksAnswer, ChecksAreExact};
+ghost use Rattle.generator_spec.specs.Laws.{OneGeneration, SomeGeneration, NothingRefused};
 ghost use Rattle.generator_spec.specs.Laws.{RequestsAreNumbered, OneOutcome, SomeOutcome, EndsKeepPromises};
+ghost use Rattle.generator_spec.specs.WorkedExamples.{StrictExamples};
 
 mod copies;
 
@@ -83,6 +85,22 @@ pub fn nothing_refused()
 /// A check is done exactly where the map serves each need, and each module agrees that is checked.
 pub fn checks_are_exact()
     ensures { ChecksAreExact }
+{}
+
+/// The modules of a trace agree exactly where the file of each module does that the page reaches.
+pub fn agrees_where_reached()
+    ensures { AgreesWhereReached }
+{}
+
+/// What a check answers: 0 exactly where each need is served and each module agrees that is checked; else 6, with the
+/// lines of the needs, those of the modules, and their number.
+pub fn checks_answer()
+    ensures { ChecksAnswer }
+{}
+
+/// Worked examples of what a strict check says of modules.
+pub fn strict_examples()
+    ensures { StrictExamples }
 {}
 
 /// Where there is a trace, the request with a number leads to the module with that number.

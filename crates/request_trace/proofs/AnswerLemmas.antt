@@ -10,7 +10,7 @@
 --     first_name, second_name, third_name, fourth_name      the references
 --     takes_moved          the steps beside another name for what they end with
 --     named_limit, limit_ends, look_ends      a limit that ends a walk
-use Rattle.std.proofs.Common.{◌≡◌, ◌≤◌, ◌+◌, ℕ, List, Option, Some, None, Result, Ok, Err, IfSome, refl, sym, ap, ◌∙◌, subst, arith}
+use Rattle.std.proofs.Common.{◌≡◌, ◌≤◌, ◌+◌, ℕ, List, length, Option, Some, None, Result, Ok, Err, IfSome, refl, sym, ap, ◌∙◌, subst, arith}
 use Rattle.std.specs.Prelude.{◌≢◌, [], ◌∷◌, Contains, IfErr, IfOk, MatchResult, OnOk, ⊤}
 use Rattle.std.proofs.lemmas.List.Elements.{Contains-append_left}
 use Rattle.asking_spec.specs.Askings.{answered, ask, questions}
@@ -39,7 +39,7 @@ use Rattle.package_lookup.specs.Answered as lookup
 use Rattle.package_lookup.specs.Responses.{Response, given, fails, passes, not_read, no_memory, never, by_limit}
 use Rattle.package_lookup.proofs.Questions.{sees_still, limited_always}
 use Rattle.package_lookup.proofs.Learnings.{learns_as, learns_by, learns_at, learns_nothing}
-use Rattle.trace_walk.specs.Meeting.{Told, Kept, IsTold, looks_of, IsAskedBy, Comes, Met, fine}
+use Rattle.trace_walk.specs.Meeting.{Told, Kept, IsTold, looks_of, IsAskedBy, fresh_to_end, Comes, Met, fine}
 use Rattle.module_sources.specs.declared.source.Source.{Source}
 use Rattle.module_sources.specs.declared.source.NoSource.{NoSource}
 use Rattle.module_sources.specs.Shown.{FindsSource, IsSource}
@@ -99,7 +99,7 @@ answers_always sights trail after question answer e =
 abbrev afresh : State → State
 afresh before = state before.folder before.known (begun before.trail)
 
-module _ (references : List ℕ) (before after : State) (question : Question) (response : Response (Answer question))
+module _ (references : List ℕ) (taken spent : ℕ) (before after : State) (question : Question) (response : Response (Answer question))
     (result : Result (Answer question) TraceFault) where
   told_here : Answered (afresh before) (put question) response after → (by : Tree)
       → before.folder.holds ≡ Some by → Tells by (afresh before) (put question) response after
@@ -128,7 +128,7 @@ module _ (references : List ℕ) (before after : State) (question : Question) (r
 
   -- a look of the question is one at which the walk's question looks
   asked_by : (path : List ℕ) → IsLookOf (afresh before) (put question) path
-      → IsAskedBy (answers_of references before) (fine (ask question answered)) path
+      → IsAskedBy (answers_of references taken before) (fine (ask question answered)) path
   asked_by path is told by are =
       let each : (sights : Sights) → Sees by.tree before.known sights → Contains (looks sights (put question)) path =
       subst (λ holds. IfSome holds
@@ -138,18 +138,25 @@ module _ (references : List ℕ) (before after : State) (question : Question) (r
       (sym by.are)
       (Contains-append_left (looks by.sights (put question)) [] path (each by.sights by.sees))
 
-  pub met_by : result ≡ result_by response → Answered (afresh before) (put question) response after
-      → Met (answers_of references before) (fine (ask question answered)) result (answers_of references after)
-  met_by is a = record {
+  steps_told : spent ≤ taken + 1 → (told : Answering) → ToldBy before.folder before.known told
+      → spent ≤ taken + length (fresh_to_end told before.trail (fine (ask question answered)))
+  steps_told few told by =
+      subst (λ (t : Answering). spent ≤ taken + length (fresh_to_end t before.trail (fine (ask question answered))))
+      (sym by.are) (omega (arith, few))
+
+  pub met_by : spent ≤ taken + 1 → result ≡ result_by response → Answered (afresh before) (put question) response after
+      → Met (answers_of references taken before) (fine (ask question answered)) result (answers_of references spent after)
+  met_by few is a = record {
     comes = comes_told is a;
     told = told_still a;
     keeps = (λ i. record { references = references; holds = a.folder.tree i; writes = a.folder.writes i });
     later = a.folder.later;
     cause = λ e. a.folder.cause (read_by response result is e);
     quiet = λ ne. a.folder.quiet (λ e. ne (is ∙ ap result_by e));
+    steps = steps_told few;
     learns = learns_as before after (response ≡ fails no_memory) (result ≡ Err Memory)
         (IsLookOf (afresh before) (put question))
-        (IsAskedBy (answers_of references before) (fine (ask question answered))) (λ e. is ∙ ap result_by e) asked_by
+        (IsAskedBy (answers_of references taken before) (fine (ask question answered))) (λ e. is ∙ ap result_by e) asked_by
         (learns_at (afresh before) after before.trail after.trail (response ≡ fails no_memory)
         (IsLookOf (afresh before) (put question)) (learns_by (afresh before) after (put question) response a));
     covered = λ finished covers. a.covered (λ e. finished (is ∙ ap result_by e)) covers;
@@ -157,41 +164,41 @@ module _ (references : List ℕ) (before after : State) (question : Question) (r
 
 -- ---- the walk
 
-is_traced : (told : Option Tree) (references others : List ℕ) (config : Config) (before after : State)
+is_traced : (told : Option Tree) (references others : List ℕ) (taken spent : ℕ) (config : Config) (before after : State)
     (result : Result Gathered TraceFault) → before.folder.holds ≡ told → before.trail ≡ no_trail
-    → Met (answers_of references before) (trace config) result (answers_of others after)
+    → Met (answers_of references taken before) (trace config) result (answers_of others spent after)
     → IfSome told
     (λ tree. (sights : Sights) → Sees tree before.known sights → IsTold result → traced sights config ≡ result)
-is_traced None references others config before after result holds fresh met = tt
-is_traced (Some tree) references others config before after result holds fresh met = λ sights sees is_told.
+is_traced None references others taken spent config before after result holds fresh met = tt
+is_traced (Some tree) references others taken spent config before after result holds fresh met = λ sights sees is_told.
     ap (λ trail. result_of (evaluated (answers sights) trail (trace config))) (sym fresh)
     ∙ (met.comes (told_by sights) (record { tree = tree; sights = sights; holds = holds; sees = sees; are = refl })
     is_told).is
 
 -- what the walk's questions look at is of the footprint
-of_footprint : (told : Option Tree) (references : List ℕ) (config : Config) (before : State) (path : List ℕ)
-    → before.folder.holds ≡ told → IsAskedBy (answers_of references before) (trace config) path
+of_footprint : (told : Option Tree) (references : List ℕ) (taken : ℕ) (config : Config) (before : State) (path : List ℕ)
+    → before.folder.holds ≡ told → IsAskedBy (answers_of references taken before) (trace config) path
     → IfSome told
     (λ tree. (sights : Sights) → Sees tree before.known sights → Contains (footprint sights (generation config)) path)
-of_footprint None references config before path holds is = tt
-of_footprint (Some tree) references config before path holds is = λ sights sees.
+of_footprint None references taken config before path holds is = tt
+of_footprint (Some tree) references taken config before path holds is = λ sights sees.
     footprint_contains sights (generation config) path
     (subst (λ paths. Contains paths path) (sym (looks_are_of_questions sights config).looks)
     (is (told_by sights) (record { tree = tree; sights = sights; holds = holds; sees = sees; are = refl })
     (answers_always sights)))
 
-pub traces_by : (references others : List ℕ) (config : Config) (before after : State)
+pub traces_by : (references others : List ℕ) (taken spent : ℕ) (config : Config) (before after : State)
     (result : Result Gathered TraceFault) → before.trail ≡ no_trail
-    → Met (answers_of references before) (trace config) result (answers_of others after)
+    → Met (answers_of references taken before) (trace config) result (answers_of others spent after)
     → IfErr result (IsOfWalk config)
     → Traces config before.folder before.known result after.folder after.known
-traces_by references others config before after result fresh met kind = record {
-  is = is_traced before.folder.holds references others config before after result refl fresh met;
+traces_by references others taken spent config before after result fresh met kind = record {
+  is = is_traced before.folder.holds references others taken spent config before after result refl fresh met;
   learns = learns_at before after no_trail no_trail (result ≡ Err Memory)
       (IsOfFootprint config before.folder before.known)
       (learns_as before after (result ≡ Err Memory) (result ≡ Err Memory)
-      (IsAskedBy (answers_of references before) (trace config)) (IsOfFootprint config before.folder before.known)
-      (λ e. e) (λ path. of_footprint before.folder.holds references config before path refl) met.learns);
+      (IsAskedBy (answers_of references taken before) (trace config)) (IsOfFootprint config before.folder before.known)
+      (λ e. e) (λ path. of_footprint before.folder.holds references taken config before path refl) met.learns);
   looks = record {
     tree = ap (λ (keeps : Kept). keeps.holds) met.keeps;
     writes = ap (λ (keeps : Kept). keeps.writes) met.keeps;

@@ -28,9 +28,9 @@ ended_ok : {X : Type 0} (end : Ended (Result X TraceFault) Trail LimitName) (val
 ended_ok (ends result state) value after is leaves = (λ i. ends (is i) (leaves i))
 ended_ok (stopped limit state) value after is leaves = absurd (cc)
 
-module _ (references others : List ℕ) (config : Config) (before after : State) (all : Gathered)
+module _ (references others : List ℕ) (taken spent : ℕ) (config : Config) (before after : State) (all : Gathered)
     (fresh : before.trail ≡ no_trail)
-    (met : Met (answers_of references before) (trace config) (Ok all) (answers_of others after)) where
+    (met : Met (answers_of references taken before) (trace config) (Ok all) (answers_of others spent after)) where
   paths_are : (told : Option Tree) → before.folder.holds ≡ told
       → IfSome told (λ tree. (sights : Sights) → Sees tree before.known sights
       → after.trail.paths ≡ footprint sights (generation config))
@@ -52,13 +52,13 @@ module _ (references others : List ℕ) (config : Config) (before after : State)
   }
 
 -- beside other names for what is known and for the trail afterwards
-pub footprint_left : (references others : List ℕ) (config : Config) (before after : State) (later : Known)
+pub footprint_left : (references others : List ℕ) (taken spent : ℕ) (config : Config) (before after : State) (later : Known)
     (paths : List (List ℕ)) (result : Result Tables TraceFault) → before.trail ≡ no_trail
-    → Met (answers_of references before) (trace config) (traced_of result) (answers_of others after)
+    → Met (answers_of references taken before) (trace config) (traced_of result) (answers_of others spent after)
     → after.known ≡ later → after.trail.paths ≡ paths
     → IfOk result (λ tables. IsFootprint config before.folder before.known later paths)
-footprint_left references others config before after later paths (Err fault) fresh met same alike = tt
-footprint_left references others config before after later paths (Ok tables) fresh met same alike =
+footprint_left references others taken spent config before after later paths (Err fault) fresh met same alike = tt
+footprint_left references others taken spent config before after later paths (Ok tables) fresh met same alike =
     subst (λ k. IsFootprint config before.folder before.known k paths) same
     (subst (λ ps. IsFootprint config before.folder before.known after.known ps) alike
-    (is_footprint references others config before after (before_of tables) fresh met))
+    (is_footprint references others taken spent config before after (before_of tables) fresh met))

@@ -1,9 +1,10 @@
 -- The answers to a walk's questions by looks at a folder.
 --     result_by response            what a question comes to, as the result of a call
---     told_by sights                the answers by what stands at each path, and the looks of each question
+--     told_by sights                the answers by what stands at each path, and the looks of each question; each is
+--                                   fresh
 --     ToldBy folder known told      these are the answers so, as far as looks tell
---     answers_of references looks   what answers, in this state
-use Rattle.std.specs.Prelude.{◌≡◌, ℕ, List, Some, Result, Ok, Err}
+--     answers_of references steps looks      what answers, in this state, behind so many steps
+use Rattle.std.specs.Prelude.{◌≡◌, ℕ, true, List, Some, Result, Ok, Err}
 use Rattle.tree_spec.specs.LookAskings.{Sights, looks}
 use Rattle.tree_spec.specs.LookLimits.{Trail}
 use Rattle.tree_spec.specs.States.{FolderState}
@@ -31,6 +32,7 @@ told_by sights =
       answers = answers sights;
       always = always sights;
       looks = λ question. looks sights (put question);
+      fresh = λ question. true;
     }
 
 pub record ToldBy (folder : FolderState) (known : Known) (told : Told Trail Question Answer) : Type 0 where
@@ -40,12 +42,13 @@ pub record ToldBy (folder : FolderState) (known : Known) (told : Told Trail Ques
   pub sees : Sees tree known sights
   pub are : told ≡ told_by sights
 
-abbrev pub answers_of : List ℕ → State → AnswererState
-answers_of references looks =
+abbrev pub answers_of : List ℕ → ℕ → State → AnswererState
+answers_of references steps looks =
     record {
       told = ToldBy looks.folder looks.known;
       state = looks.trail;
       faults = looks.folder.look_faults;
+      steps = steps;
       keeps = record { references = references; holds = looks.folder.holds; writes = looks.folder.write_faults };
       looks = looks;
     }

@@ -6,8 +6,13 @@
 --                                       may be
 --     TakesSteps result count before after      no more steps than count tells of what was found, and never more than
 --                                               there may be modules and requests
+--     StepsByQuestions sights config before after      no more steps than there are questions until the trace ends,
+--                                                      wherever that is
+--     TakesStepsToEnd config before known from to      where a tree is told, no more steps than that, by all that looks
+--                                                      tell
 --     TracesTables config before known result after later from to      the trace as the walk's tables, in so many steps
-use Rattle.std.specs.Prelude.{◌≡◌, ◌≤◌, ◌+◌, ℕ, List, length, Contains, Result, Err, IfSome, IfOk, IfErr}
+use Rattle.std.specs.Prelude.{◌≡◌, ◌≤◌, ◌+◌, ℕ, List, length, Contains, Some, Result, Err, IfSome, IfOk}
+use Rattle.std.specs.Prelude.{IfErr}
 use Rattle.tree_spec.specs.declared.LimitName.TheVariants.{Modules, Requests}
 use Rattle.tree_spec.specs.Limits.{limit_number}
 use Rattle.tree_spec.specs.LookAskings.{Sights, footprint}
@@ -17,6 +22,8 @@ use Rattle.trace_spec.specs.declared.TraceFault.{TraceFault}
 use Rattle.trace_spec.specs.declared.TraceFault.TheVariants.{ReadFault, Memory}
 use Rattle.trace_spec.specs.Modules.{Config}
 use Rattle.trace_spec.specs.Checks.{Gathered}
+use Rattle.trace_spec.specs.Laws.{asked_by_end}
+use Rattle.trace_spec.specs.Questions.{Question}
 use Rattle.trace_spec.specs.Traces.{traced, generation}
 use Rattle.package_lookup.specs.declared.known.Known.{Known}
 use Rattle.package_lookup.specs.Looked.{Sees}
@@ -64,8 +71,21 @@ pub record TakesSteps {A E : Type 0} (result : Result A E) (count : A → ℕ) (
   pub counted : IfOk result (λ found. after ≤ before + count found)
   pub bounded : after ≤ before + (limit_number Modules + limit_number Requests)
 
+-- own: one for each module and each request up to the refusal, if there is one. They aren't more where a look fails or
+-- memory is wanting, which ends the trace before
+pub record StepsByQuestions (sights : Sights) (config : Config) (before after : ℕ) : Type 0 where
+  pub asked : List Question
+  pub are : asked_by_end sights config ≡ Some asked
+  pub steps : after ≤ before + length asked
+
+abbrev pub TakesStepsToEnd : Config → FolderState → Known → ℕ → ℕ → Type 0
+TakesStepsToEnd config before known from to =
+    IfSome before.holds
+    (λ tree. (sights : Sights) → Sees tree known sights → StepsByQuestions sights config from to)
+
 pub record TracesTables (config : Config) (before : FolderState) (known : Known) (result : Result Tables TraceFault)
     (after : FolderState) (later : Known) (from to : ℕ) : Type 0 where
   pub traces : Traces config before known (traced_of result) after later
   pub tables : IfOk result (AreWalked config)
   pub steps : TakesSteps result (λ tables. length tables.sources.items + length tables.targets.items) from to
+  pub asked : TakesStepsToEnd config before known from to

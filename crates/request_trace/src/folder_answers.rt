@@ -36,12 +36,10 @@ impl<'a, 'b, 'c, 'd, F: Folder, L: Ledger> Answerer for FolderAnswers<'a, 'b, 'c
     ghost use Rattle.request_trace.specs.Answering.{answers_of};
 
     ghost state = { λ answers. answers_of (answers.folder.ghost_name ∷ answers.known.ghost_name
-        ∷ answers.steps.ghost_name ∷ answers.trail.ghost_name ∷ [])
+        ∷ answers.steps.ghost_name ∷ answers.trail.ghost_name ∷ []) answers.steps.now
         (state (F.state answers.folder.now) answers.known.now answers.trail.now) };
 
     ghost ready = { λ answers. ⊤ };
-
-    ghost steps = { λ answers. answers.steps.now };
 
     fn module(
         &mut self,

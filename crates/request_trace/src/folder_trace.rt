@@ -1,7 +1,7 @@
 ghost use Rattle.std.specs.Prelude.{◌≡◌, ◌+◌, IfOk, length};
 ghost use Rattle.request_trace.specs.Showing.{gathered_of};
 ghost use Rattle.request_trace.specs.Footprints.{IsFootprint};
-ghost use Rattle.request_trace.specs.Tracing.{TakesSteps, Traces, TracesTables};
+ghost use Rattle.request_trace.specs.Tracing.{TakesSteps, TakesStepsToEnd, Traces, TracesTables};
 ghost use Rattle.tree_spec.specs.LookLimits.{no_trail};
 
 use crate::folder_answers::FolderAnswers;
@@ -16,8 +16,8 @@ use trace_walk::{Tables, walk};
 use tree_model::Folder;
 
 /// The trace of a folder and a config, or its first refusal. No path is looked at that is known, none twice, and none
-/// that isn't of the generation's footprint. A trace takes at most one step for each module and for each request;
-/// whatever comes of it, no more than there may be modules and requests.
+/// that isn't of the generation's footprint. A trace takes at most one step for each module and for each request, where
+/// it is refused up to the refusal; whatever the folder tells, no more than there may be modules and requests.
 pub fn trace<F: Folder, L: Ledger>(
     alloc: Global,
     folder: &mut F,
@@ -32,6 +32,7 @@ pub fn trace<F: Folder, L: Ledger>(
         trace.footprint) }
     ensures steps { TakesSteps result (λ trace. length trace.gathered.sources + length trace.gathered.targets)
         steps.old steps.new }
+    ensures asked { TakesStepsToEnd config.now (F.state folder.old) known.old steps.old steps.new }
 {
     let base = config.base().copy(alloc)?;
     let mut trail = Trail::new(alloc);

@@ -16,3 +16,4 @@ pub mod SessionSpending
 pub mod FreshMaps
 pub mod RefusalStatuses
 pub mod SessionsPromise
+pub mod OpenInputs

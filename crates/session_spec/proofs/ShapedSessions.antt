@@ -1,5 +1,5 @@
--- What a session says has one of four shapes, whatever tree and input it is of.
-use Rattle.std.proofs.Common.{◌≡◌, ◌++◌, [], ℕ, List, Bool, true, false, Ok, refl, sym, subst}
+-- What a session says has one of its shapes, whatever tree and input it is of.
+use Rattle.std.proofs.Common.{◌≡◌, ◌++◌, [], ℕ, List, Bool, true, false, Ok, refl, sym, subst, inl, inr}
 use Rattle.std.proofs.lemmas.List.{append_assoc}
 use Rattle.std.specs.FinMap.{get}
 use Rattle.tree_spec.specs.Trees.{Tree}
@@ -25,7 +25,7 @@ use Rattle.session_spec.specs.Conversations.{Conversation, edits, collects, show
 use Rattle.session_spec.specs.Laws.{SessionsAreShaped}
 use Rattle.session_spec.specs.SessionRuns as session
 use Rattle.session_spec.specs.Openings.{refresh_words, opening_line}
-use Rattle.session_spec.specs.SessionRuns.{SessionComesTo, IsOpenedText, IsSessionShaped}
+use Rattle.session_spec.specs.SessionRuns.{SessionComesTo, IsOpenedText, IsAnswerShaped}
 use Rattle.session_spec.specs.SessionStates.{SessionState}
 use Rattle.session_spec.proofs.WholeSessions.{asks_anew}
 
@@ -86,7 +86,7 @@ module _ (state : SessionState) where
   opened_with : (front : List ℕ) → IsOpenedText (opening_line state ++ front)
   opened_with front = record { counts = state.counts; replies = front; says = refl }
 
-  shaped_by : (out : List ℕ) (status : ℕ) → EndsAsLine out status → IsSessionShaped status (opening_line state ++ out)
+  shaped_by : (out : List ℕ) (status : ℕ) → EndsAsLine out status → IsAnswerShaped status (opening_line state ++ out)
   shaped_by _ _ (at_end front) =
       session.ended (opening_line state ++ front) (opened_with front) refl (sym (append_assoc (opening_line state) front end_reply))
   shaped_by _ _ (at_line front number) =
@@ -95,6 +95,6 @@ module _ (state : SessionState) where
       session.too_long (opening_line state ++ front) (opened_with front) refl (sym (append_assoc (opening_line state) front (limit_line Session)))
 
 pub sessions_are_shaped : SessionsAreShaped
-sessions_are_shaped tree input _ _ (session.refused why is) = session.unopened why (can_refuse tree why is) refl refl
+sessions_are_shaped tree input _ _ (session.refused why is) = inr (record { why = why; can = can_refuse tree why is; ends = refl; says = refl })
 sessions_are_shaped tree input _ _ (session.replied state status out opened answers) =
-    shaped_by state out status (ends_as _ state 1 _ out status answers)
+    inl (shaped_by state out status (ends_as _ state 1 _ out status answers))

@@ -1,6 +1,6 @@
 -- The laws of sessions. Each is the contract of a function of this crate.
 use Rattle.std.specs.FinMap.{get}
-use Rattle.std.specs.Prelude.{◌≡◌, ◌≤◌, ◌⊎◌, ◌++◌, ◌∷◌, ⊤, ℕ, true, List, length, flat_map, Ok, Err, All}
+use Rattle.std.specs.Prelude.{◌≡◌, ◌≤◌, ◌⊎◌, ◌++◌, ◌∷◌, [], ⊤, ℕ, true, List, length, flat_map, Ok, Err, All}
 use Rattle.tree_spec.specs.Limits.{limit_number}
 use Rattle.tree_spec.specs.Paths.{IsPath}
 use Rattle.tree_spec.specs.States.{FolderState, SourceState, SinkState}
@@ -17,11 +17,13 @@ use Rattle.session_spec.specs.EditFaults.{CanRefuseEdit}
 use Rattle.session_spec.specs.Edits.{Draft, can_put, put_file, edited, then_edited}
 use Rattle.session_spec.specs.Replies.{IsRefused, Replies, IsAccepted, Leads, AllAccepted}
 use Rattle.session_spec.specs.SessionLooks.{IsTried, IsSessionLook}
-use Rattle.session_spec.specs.Openings.{OpensAt}
+use Rattle.session_spec.specs.Openings.{OpensAt, CanOpen}
 use Rattle.session_spec.specs.SessionPromises.{SessionPromises}
-use Rattle.session_spec.specs.SessionRuns.{SessionComesTo, RepliesTo, IsStanding, IsSessionShaped, SessionEnds}
+use Rattle.session_spec.specs.SessionRuns.{SessionComesTo, RepliesTo, RepliesToAll, IsStanding, SessionEnds}
+use Rattle.session_spec.specs.SessionRuns.{IsAnswerShaped, IsRefusalShaped}
 use Rattle.session_spec.specs.SessionStates.{SessionState, draft_of, config_with, IsCurrent}
-use Rattle.session_spec.specs.Talks.{Standing, begun, turn_of, Talks}
+use Rattle.session_spec.specs.Talks.{Standing, begun, turn_of, Talks, edits_of}
+use Rattle.session_spec.specs.TakenInput.{LeavesOpen}
 
 -- the two states are one, and so are the lines
 pub record SameReply (next other : SessionState) (line said : List ℕ) : Type 0 where
@@ -170,20 +172,34 @@ abbrev pub LooksStay : Type 0
 LooksStay =
     (tree : Tree) (taken more path : List ℕ) → IsSessionLook tree taken path → IsSessionLook tree (taken ++ more) path
 
--- own: these edits were accepted, one after another; the tree and the entries are those behind all their changes, and
--- the map is the one that is generated for them
-pub record IsFreshAfter (first later : SessionState) : Type 0 where
+-- own: of edits that are made one after another, these are accepted; each other is refused and leaves the state
+pub data AreAccepted : SessionState → List (List Change) → List (List Change) → SessionState → Type 0 where
+  none : (state : SessionState) → AreAccepted state [] [] state
+  accepts :
+      (state next later : SessionState) (edit : List Change) (made accepted : List (List Change)) (line : List ℕ)
+      → IsAccepted state edit next line → AreAccepted next made accepted later
+      → AreAccepted state (edit ∷ made) (edit ∷ accepted) later
+  leaves :
+      (state next later : SessionState) (edit : List Change) (made accepted : List (List Change)) (line : List ℕ)
+      → IsLeft state edit next line → AreAccepted next made accepted later
+      → AreAccepted state (edit ∷ made) accepted later
+
+-- own: these of the edits were accepted, one after another; the tree and the entries are those behind all their
+-- changes, and the map is the one that is generated for them
+pub record IsFreshAfter (first : SessionState) (made : List (List Change)) (later : SessionState) : Type 0 where
   pub edits : List (List Change)
+  pub are_accepted : AreAccepted first made edits later
   pub accepted : AllAccepted first edits later
   pub behind : IsBehind first (all_changes edits) later
   pub fresh : IsCurrent later
 
--- wherever a session stands that is opened on a tree, some edits were accepted, and its map is that of a fresh
--- generation for what they leave; what was refused is without effect
+-- wherever a session stands that is opened on a tree, some of the edits that the lines of its input made were accepted,
+-- and its map is that of a fresh generation for what they leave; what was refused is without effect
 abbrev pub MapsAreFreshAfterEdits : Type 0
 MapsAreFreshAfterEdits =
     (tree : Tree) (first : SessionState) (input out : List ℕ) (later : Standing) → OpensAt tree first
-    → Talks (begun first input) out later → IsFreshAfter first later.state
+    → (talks : Talks (begun first input) out later)
+    → IsFreshAfter first (edits_of (begun first input) later out talks) later.state
 
 -- what a session says while it takes an input is the front of what it says to it all, whatever comes behind
 abbrev pub RepliesAreFront : Type 0
@@ -212,7 +228,22 @@ SomeSession = (tree : Tree) (input : List ℕ) → HasSession tree input
 abbrev pub SessionsAreShaped : Type 0
 SessionsAreShaped =
     (tree : Tree) (input text : List ℕ) (status : ℕ) → SessionComesTo tree input status text
-    → IsSessionShaped status text
+    → IsAnswerShaped status text ⊎ IsRefusalShaped status text
+
+-- own: a session on the tree replies some text to each line that stands whole in these bytes, and waits for more
+pub record HasReplies (tree : Tree) (input : List ℕ) : Type 0 where
+  pub text : List ℕ
+  pub replied : RepliesToAll tree input text
+
+-- where a session is opened, it replies to each line that stands whole in bytes that leave it open, and waits for more
+abbrev pub OpenInputsWait : Type 0
+OpenInputsWait = (tree : Tree) (input : List ℕ) → CanOpen tree → LeavesOpen input → HasReplies tree input
+
+-- bytes that the limit allows, behind which a session waits for more, leave it open
+abbrev pub WaitingIsOpen : Type 0
+WaitingIsOpen =
+    (tree : Tree) (input text : List ℕ) → length input ≤ limit_number Session → RepliesToAll tree input text
+    → LeavesOpen input
 
 -- own: what a session says in the end that stands there: behind `end`, behind a line that has no meaning or stands in
 -- the wrong place, where the input ends within a line, and where the limit does

@@ -4,10 +4,13 @@
 --                                     allows, or nothing yet
 --     RepliesToAll tree taken text    so, to each line that stands whole in them
 --     IsStanding tree taken text at   where a session stands that took these bytes and said this
---     IsAwaited tree taken            but for the last of these bytes, as many as a take may ask for, they don't end
---                                     the session
---     StatesServe tree input            each map that such a session can show serves the tree and config of its state
---     IsSessionShaped status text     status and text belong together, whatever the folder tells
+--     StatesServe tree input          each map that such a session can show serves the tree and config of its state
+--     IsAnswerShaped status text      status and text belong together, whatever the folder tells, of a session that is
+--                                     opened
+--     IsRefusalShaped status text     and of one that isn't
+--     IsSessionShaped taken status text       either is so, and nothing is taken for a session that isn't opened
+--     IsFrontShaped taken text        the line of an opening and then any replies; or nothing is said, and nothing is
+--                                     taken
 --     SessionSays before after source later taken status text      why a session ends with this status and this text
 --     SessionStops before after source later taken out out_after result      all of the text went out, or the sink
 --                                     failed and that ended the session
@@ -27,13 +30,13 @@ use Rattle.generator_spec.specs.Statuses.{done_status, file_status, limit_status
 use Rattle.generator_spec.specs.Statuses.{write_fault_status}
 use Rattle.generator_spec.specs.declared.Refusal.{Refusal}
 use Rattle.session_spec.specs.Conversations.{Answers, stops, end_reply, bad_line}
-use Rattle.session_spec.specs.Openings.{refresh_words, OpensAt, opening_line}
+use Rattle.session_spec.specs.Openings.{refresh_words, OpensAt, CanOpen, opening_line}
 use Rattle.session_spec.specs.Replies.{accepted_line}
 use Rattle.session_spec.specs.SessionLooks.{AsksWithin}
 use Rattle.session_spec.specs.SessionSteps.{SessionSpends}
 use Rattle.session_spec.specs.SessionStates.{Counts, SessionState, IsGenerated}
 use Rattle.session_spec.specs.Talks.{Standing, begun, turn_of, Talks}
-use Rattle.session_spec.specs.TakenInput.{Takes, taken_at_once}
+use Rattle.session_spec.specs.TakenInput.{Takes, LeavesOpen, IsAwaited}
 
 -- ---- what is said
 
@@ -68,19 +71,7 @@ pub record IsStanding (tree : Tree) (taken text : List ℕ) (at : Standing) : Ty
   pub talks : Talks (begun state taken) out at
   pub said : text ≡ opening_line state ++ out
 
--- ---- what is taken, asked and shown
-
-pub record StandsBeforeLast (tree : Tree) (taken : List ℕ) : Type 0 where
-  pub front : List ℕ
-  pub last : List ℕ
-  pub whole : taken ≡ front ++ last
-  pub few : length front ≤ limit_number Session
-  pub short : length last ≤ taken_at_once
-  pub text : List ℕ
-  pub replied : RepliesToAll tree front text
-
-abbrev pub IsAwaited : Tree → List ℕ → Type 0
-IsAwaited tree taken = (taken ≡ []) ⊎ StandsBeforeLast tree taken
+-- ---- what is shown
 
 pub record StateServes (state : SessionState) : Type 0 where
   pub serves : Serves state.tree state.config state.map
@@ -107,41 +98,54 @@ pub record IsOpenedText (text : List ℕ) : Type 0 where
   pub says : text ≡ accepted_line counts ++ replies
 
 -- own: behind the line of the opening and replies stands the reply to `end`, the line of a line that has no meaning or
--- stands in the wrong place, or that of the limit; or nothing was opened, and all is a refusal that `refresh` can have
-pub data IsSessionShaped (status : ℕ) (text : List ℕ) : Type 0 where
+-- stands in the wrong place, or that of the limit
+pub data IsAnswerShaped (status : ℕ) (text : List ℕ) : Type 0 where
   ended :
       (front : List ℕ) → IsOpenedText front → status ≡ done_status → text ≡ front ++ end_reply
-      → IsSessionShaped status text
+      → IsAnswerShaped status text
   refused_line :
       (front : List ℕ) (number : ℕ) → IsOpenedText front → status ≡ file_status → text ≡ front ++ bad_line number
-      → IsSessionShaped status text
+      → IsAnswerShaped status text
   too_long :
       (front : List ℕ) → IsOpenedText front → status ≡ limit_status → text ≡ front ++ limit_line Session
-      → IsSessionShaped status text
-  unopened :
-      (why : Refusal) → CanRefuse refresh_words why → status ≡ status_of why → text ≡ line_of why
-      → IsSessionShaped status text
+      → IsAnswerShaped status text
+
+-- own: nothing was opened, and all is a refusal that `refresh` can have
+pub record IsRefusalShaped (status : ℕ) (text : List ℕ) : Type 0 where
+  pub why : Refusal
+  pub can : CanRefuse refresh_words why
+  pub ends : status ≡ status_of why
+  pub says : text ≡ line_of why
+
+abbrev pub IsSessionShaped : List ℕ → ℕ → List ℕ → Type 0
+IsSessionShaped taken status text = IsAnswerShaped status text ⊎ ((taken ≡ []) × IsRefusalShaped status text)
+
+abbrev pub IsFrontShaped : List ℕ → List ℕ → Type 0
+IsFrontShaped taken text = IsOpenedText text ⊎ ((taken ≡ []) × (text ≡ []))
 
 -- own: the session says what is defined, and no fault was counted; or there is want of memory, or a fault that was
--- counted, behind the line of the opening and whole replies, or behind nothing. Where a take fails, each line that
--- stands whole in the bytes that were taken was answered
+-- counted, behind the line of the opening and whole replies, or behind nothing. Where a take fails, no line in the
+-- bytes that were taken ends the session, and each that stands whole there was answered
 pub data SessionSays (before after : FolderState) (source later : SourceState) (taken : List ℕ) (status : ℕ)
     (text : List ℕ) : Type 0 where
   outcome :
-      IsSessionShaped status text → NoFault before after source later
+      IsSessionShaped taken status text → NoFault before after source later
       → IfSome before.holds (λ tree. SessionComesTo tree taken status text)
       → IfSome before.holds (λ tree. IfSome source.left (λ input. SessionComesTo tree input status text))
       → SessionSays before after source later taken status text
   memory :
-      (front : List ℕ) → NoFault before after source later → IfSome before.holds (λ tree. RepliesTo tree taken front)
-      → status ≡ memory_status → text ≡ front ++ memory_line → SessionSays before after source later taken status text
+      (front : List ℕ) → IsFrontShaped taken front → NoFault before after source later
+      → IfSome before.holds (λ tree. RepliesTo tree taken front) → status ≡ memory_status
+      → text ≡ front ++ memory_line → SessionSays before after source later taken status text
   look_fault :
-      (front : List ℕ) → Rose before.look_faults after.look_faults → later.faults ≡ source.faults
-      → IfSome before.holds (λ tree. RepliesTo tree taken front) → status ≡ read_fault_status
+      (front : List ℕ) → IsFrontShaped taken front → Rose before.look_faults after.look_faults
+      → later.faults ≡ source.faults → IfSome before.holds (λ tree. RepliesTo tree taken front)
+      → status ≡ read_fault_status
       → text ≡ front ++ read_fault_line → SessionSays before after source later taken status text
   take_fault :
-      (front : List ℕ) → after.look_faults ≡ before.look_faults → Rose source.faults later.faults
-      → IfSome before.holds (λ tree. RepliesToAll tree taken front) → status ≡ read_fault_status
+      (front : List ℕ) → IsOpenedText front → LeavesOpen taken → after.look_faults ≡ before.look_faults
+      → Rose source.faults later.faults → IfSome before.holds (λ tree. RepliesToAll tree taken front)
+      → status ≡ read_fault_status
       → text ≡ front ++ read_fault_line → SessionSays before after source later taken status text
 
 -- own: where the sink fails, a front of the text went out, or of what was replied until then
@@ -151,8 +155,9 @@ pub data SessionStops (before after : FolderState) (source later : SourceState) 
       (status : ℕ) (text : List ℕ) → SessionSays before after source later taken status text
       → Ends status text out out_after result → SessionStops before after source later taken out out_after result
   cut_off :
-      (text : List ℕ) → NoFault before after source later → IfSome before.holds (λ tree. RepliesTo tree taken text)
-      → result ≡ write_fault_status → Gives out.got out_after.got text → Rose out.faults out_after.faults
+      (text : List ℕ) → IsOpenedText text → NoFault before after source later
+      → IfSome before.holds (λ tree. RepliesTo tree taken text) → result ≡ write_fault_status
+      → Gives out.got out_after.got text → Rose out.faults out_after.faults
       → SessionStops before after source later taken out out_after result
 
 -- own: nothing is written
@@ -165,7 +170,8 @@ pub record SessionEnds (before after : FolderState) (source later : SourceState)
   pub taken : List ℕ
   pub takes : Takes source taken later
   pub few : length taken ≤ limit_number Session + 1
-  pub awaited : IfSome before.holds (λ tree. IsAwaited tree taken)
+  pub awaited : IsAwaited taken
+  pub opened : IfSome before.holds (λ tree. (taken ≡ []) ⊎ CanOpen tree)
   pub asked : IfSome before.asked (λ old. AsksWithin before.holds taken old after)
   pub steps : SessionSpends taken spent spent_after
   pub stops : SessionStops before after source later taken out out_after result

@@ -5,7 +5,8 @@
 --     behind at state held rest       where it stands behind a line
 --     turn_of at                      what it does at the line that comes
 --     Talks before out after          from there on to there, this is replied
-use Rattle.std.specs.Prelude.{◌≡◌, ◌+◌, ◌++◌, [], ℕ, List, Option, Some, None}
+--     edits_of before after out talks the edits that the lines make from there on to there, in their order
+use Rattle.std.specs.Prelude.{◌≡◌, ◌+◌, ◌++◌, ◌∷◌, [], ℕ, List, Option, Some, None}
 use Rattle.session_spec.specs.declared.Change.{Change}
 use Rattle.session_spec.specs.Conversations.{Turn, makes, holds, shows, turn_at, map_reply}
 use Rattle.session_spec.specs.Replies.{Replies}
@@ -41,3 +42,12 @@ pub data Talks : Standing → List ℕ → Standing → Type 0 where
   shows_it :
       (at later : Standing) (rest : Rest) (out : List ℕ) → turn_of at ≡ shows rest
       → Talks (behind at at.state None rest) out later → Talks at (map_reply at.state.map ++ out) later
+
+-- own: whatever comes of them
+abbrev pub edits_of : (at later : Standing) (out : List ℕ) → Talks at out later → List (List Change)
+edits_of _ _ _ (still at) = []
+edits_of _ _ _ (edits at later edit rest next line out is replies goes) =
+    edit ∷ edits_of (behind at next None rest) later out goes
+edits_of _ _ _ (collects at later held rest out is goes) =
+    edits_of (behind at at.state (Some held) rest) later out goes
+edits_of _ _ _ (shows_it at later rest out is goes) = edits_of (behind at at.state None rest) later out goes

@@ -8,7 +8,7 @@ ghost use Rattle.session_spec.specs.Laws.{PutPlaces, EditsKeepTree, FaultsAreOfE
 ghost use Rattle.session_spec.specs.Laws.{OneAnswer, SomeAnswer, NothingBehindEnd};
 ghost use Rattle.session_spec.specs.Laws.{FrontReplies, TalksStayCurrent, OneSession, SomeSession, SessionsEnd};
 ghost use Rattle.session_spec.specs.Laws.{SessionsAreShaped, TriedAreCurrent, LooksStay, MapsAreFreshAfterEdits};
-ghost use Rattle.session_spec.specs.Laws.{RepliesAreFront, SessionsKeepPromises};
+ghost use Rattle.session_spec.specs.Laws.{RepliesAreFront, SessionsKeepPromises, OpenInputsWait, WaitingIsOpen};
 ghost use Rattle.session_spec.specs.TakenInput.{taken_at_once};
 ghost use Rattle.session_spec.specs.WorkedExamples.{LineExamples, TurnExamples, EntryExamples};
 ghost use Rattle.session_spec.specs.WorkedExamples.{EditExamples, AnswerExamples};
@@ -164,6 +164,16 @@ pub fn some_session()
 /// Whatever the tree and the input, what a session says and its status are of one of four shapes.
 pub fn sessions_are_shaped()
     ensures { SessionsAreShaped }
+{}
+
+/// Bytes that leave a session open are replied to, and more are awaited.
+pub fn open_inputs_wait()
+    ensures { OpenInputsWait }
+{}
+
+/// Bytes behind which more are awaited leave a session open.
+pub fn waiting_is_open()
+    ensures { WaitingIsOpen }
 {}
 
 /// How a session ends, where it stands.

@@ -7,6 +7,7 @@ pub mod WalkFacts
 pub mod Lists
 pub mod Steps
 pub mod Sources
+pub mod DecidedSources
 pub mod Traces
 pub mod RefusalOrder
 pub mod RefusalKinds

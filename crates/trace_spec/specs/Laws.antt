@@ -1,11 +1,13 @@
 -- The laws of traces. Each is the contract of a function of this crate.
 use Rattle.std.specs.Prelude.{◌≡◌, ◌≢◌, ⊤, ◌≤◌, ◌↔◌, ◌++◌, ℕ, true, false, List, [], ◌∷◌, length, map, flat_map}
-use Rattle.std.specs.Prelude.{slice_get, Option, Some, Result, Ok, Err, Contains, unwrap_or}
+use Rattle.std.specs.Prelude.{slice_get, Option, Some, None, Result, Ok, Err, Contains, unwrap_or, codes}
 use Rattle.std.specs.Str.{IsUtf8}
 use Rattle.asking_spec.specs.Askings.{Asking, outcome, questions}
 use Rattle.asking_spec.specs.Evaluation.{Ended, ends, stopped, evaluated, Asked, listed}
 use Rattle.asking_spec.specs.Laws.{AgreesOn}
 use Rattle.tree_spec.specs.declared.Entry.TheVariants.{Stored}
+use Rattle.tree_spec.specs.FoldersAbove.{folder_of}
+use Rattle.tree_spec.specs.Laws.{IsSameAsking}
 use Rattle.tree_spec.specs.declared.LimitName.{LimitName}
 use Rattle.tree_spec.specs.declared.LimitName.TheVariants.{Modules, Requests, Brackets, ModuleRequests, Specifier}
 use Rattle.tree_spec.specs.Limits.{limit_number}
@@ -15,8 +17,12 @@ use Rattle.url_spec.specs.Specifiers.{is_relative, ends_in_slash, as_url, normal
 use Rattle.module_spec.specs.declared.request.Request.{Request}
 use Rattle.module_spec.specs.Outlines.{Outline, ReadsOutline, most_requests}
 use Rattle.module_spec.specs.Tokens.{most_brackets}
-use Rattle.node_spec.specs.EsmFileFormat.{IsModule, IsDetected, file_format}
+use Rattle.node_spec.specs.EsmFileFormat.{IsModule, IsDetected, has_ending, file_format}
 use Rattle.node_spec.specs.Laws.{IsBare}
+use Rattle.node_spec.specs.LookupPackageScope.{package_scope}
+use Rattle.node_spec.specs.ReadPackageJson.{record_at}
+use Rattle.node_spec.specs.Records.{Record}
+use Rattle.node_spec.specs.declared.PackageKind.TheVariants.{Unstated}
 use Rattle.layout_spec.specs.declared.Need.{Need}
 use Rattle.layout_spec.specs.Needs.{NoClash}
 use Rattle.trace_spec.specs.declared.TraceFault.{TraceFault}
@@ -309,6 +315,31 @@ pub record HasSource (sights : Sights) (m : Module) (own : Source) : Type 0 wher
 -- what stands at a module's path and in the package.json of its scope decides its source
 abbrev pub SourcesAreRead : Type 0
 SourcesAreRead = (sights : Sights) (m : Module) (own : Source) → source sights m ≡ Some own ↔ HasSource sights m own
+
+-- ---- what decides a source
+
+-- the paths at which the question of a source looks
+abbrev pub source_footprint : Sights → List ℕ → List (List ℕ)
+source_footprint sights path = footprint sights (put (of_module path))
+
+-- a `.js` whose package, where it is in one, says no type
+pub data HasNoType (sights : Sights) (path : List ℕ) : Type 0 where
+  in_no_package : outcome sights (package_scope (folder_of path)) ≡ None → HasNoType sights path
+  in_package : (folder : List ℕ) (of_scope : Record) → outcome sights (package_scope (folder_of path)) ≡ Some folder
+      → outcome sights (record_at folder) ≡ Ok (Some of_scope) → of_scope.kind ≡ Unstated → HasNoType sights path
+
+-- two trees that agree on the footprint of a source's question give one source, or one reason for none. The file's own
+-- path is in it wherever the file may be a module: its format is a module's, or it is a `.js` without a type
+pub record SourceIsDecided (sights : Sights) (path : List ℕ) : Type 0 where
+  pub same : (other : Sights) → AgreesOn sights other (source_footprint sights path)
+      → IsSameAsking sights other (put (of_module path))
+  pub of_module_format : outcome sights (file_format path) ≡ Ok IsModule → Contains (source_footprint sights path) path
+  pub of_no_type : has_ending path (codes ".js") ≡ true → HasNoType sights path
+      → Contains (source_footprint sights path) path
+
+-- what stands at the paths of its question's footprint decides a source
+abbrev pub SourcesAreDecided : Type 0
+SourcesAreDecided = (sights : Sights) (path : List ℕ) → SourceIsDecided sights path
 
 -- ---- what a trace knows of its requests and needs
 

@@ -4,7 +4,7 @@
 
 ghost use Rattle.trace_spec.specs.Laws.{HasLevels, IsWhatIsReached, ModulesOnce, FewModules};
 ghost use Rattle.trace_spec.specs.Laws.{FirstRefusalDecides, RefusesByKind, NeverOutOfRoom, GoesInOrder};
-ghost use Rattle.trace_spec.specs.Laws.{RefusesInOrder, SourcesAreRead, RequestsPass};
+ghost use Rattle.trace_spec.specs.Laws.{RefusesInOrder, SourcesAreRead, SourcesAreDecided, RequestsPass};
 ghost use Rattle.trace_spec.specs.Laws.{NeedsAreRequests, LimitsOfTexts, LooksAreOfQuestions};
 ghost use Rattle.trace_spec.specs.Laws.{FewRequests, ClashesAreOfRequests};
 
@@ -157,6 +157,12 @@ pub fn refuses_in_order()
 /// A module has a source exactly where a file stands at its path whose format and text are those of a module.
 pub fn sources_are_read()
     ensures { SourcesAreRead }
+{}
+
+/// What stands at the paths of its question's footprint decides a module's source, and its own file is one of them
+/// wherever it may be a module.
+pub fn sources_are_decided()
+    ensures { SourcesAreDecided }
 {}
 
 /// Each request of whatever the page reaches passes its checks.

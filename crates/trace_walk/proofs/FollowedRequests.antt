@@ -35,6 +35,7 @@ refused_first before config tables r specifier want fault given = record {
   later = omega arith;
   cause = λ e. absurd (given.no_look (let f : fault ≡ ReadFault = cc in ap Err f));
   quiet = λ ne. refl;
+  steps = λ told tells. omega arith;
   learns = learns_nothing before.looks (failed Gathered fault ≡ Err Memory)
       (IsAskedBy before (followed_by config tables r specifier want));
   covered = λ finished covers. covers;

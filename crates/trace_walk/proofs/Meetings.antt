@@ -1,12 +1,13 @@
 -- One call after another: what a whole asking comes to, by what its parts come to.
 --     asked_first, asked_behind          what a part asks for, the whole does
+--     spent_first, spent_then            how many fresh questions a whole asks, by its parts
 --     Left before whole middle rest      whatever the rest comes to from here, the whole comes to
-use Rattle.std.proofs.Common.{◌≡◌, ◌++◌, ℕ, List, Result, Ok, Err, refl, sym, ap, ◌∙◌, subst, arith}
-use Rattle.std.specs.Prelude.{Contains}
+use Rattle.std.proofs.Common.{◌≡◌, ◌≤◌, ◌+◌, ◌++◌, ◌∷◌, [], ℕ, Bool, true, false, List, length, Result, Ok, Err, refl, sym, ap, ◌∙◌, subst, arith}
+use Rattle.std.specs.Prelude.{Contains, filter, cond}
 use Rattle.std.proofs.lemmas.Grind.{flat_map-append}
 use Rattle.std.proofs.lemmas.List.Elements.{Contains-append_left, Contains-append_right}
-use Rattle.asking_spec.specs.Askings.{Asking, answered, outcome, questions, on_ok, and_ok}
-use Rattle.asking_spec.specs.Evaluation.{Ended, ends, stopped, Answers, evaluated}
+use Rattle.asking_spec.specs.Askings.{Asking, answered, ask, outcome, questions, and_then, on_ok, and_ok}
+use Rattle.asking_spec.specs.Evaluation.{Ended, ends, stopped, then_ended, Answers, evaluated}
 use Rattle.asking_spec.proofs.AskingLemmas.{questions_then}
 use Rattle.asking_spec.proofs.EvaluationLemmas.{ends_then, refused_then, stopped_then, ends_outcome}
 use Rattle.tree_spec.specs.declared.LimitName.{LimitName}
@@ -18,6 +19,7 @@ use Rattle.package_lookup.specs.Answered.{IsCovered}
 use Rattle.package_lookup.specs.Learning.{Learns}
 use Rattle.package_lookup.proofs.Learnings.{learns_then, learns_nothing, learns_as}
 use Rattle.trace_walk.specs.Meeting.{Told, Outside, IsTold, looks_of, IsAskedBy, Comes, Met}
+use Rattle.trace_walk.specs.Meeting.{asked_then, asked_to_end, fresh_to_end}
 use Rattle.trace_walk.specs.Walking.{IsGiven}
 
 abbrev pub failed : (X : Type 0) → TraceFault → Result X TraceFault
@@ -79,6 +81,60 @@ asked_behind {X = X} before middle part next value path first is = λ told tells
     (Contains-append_right (looks_of told (questions told.always part)) (looks_of told rest) path
     (is told (first.told told tells) always))
 
+-- ---- how many fresh questions a whole asks
+
+then_asked : {X Y T S Q : Type 0} (first : Ended X T S) (goes : X → T → Ended Y T S) (whole part : X → T → List Q)
+    (rest : Y → T → List Q) → ((x : X) (t : T) → whole x t ≡ part x t ++ asked_then (goes x t) rest)
+    → asked_then first whole ≡ asked_then first part ++ asked_then (then_ended first goes) rest
+then_asked (ends answer state) goes whole part rest same = same answer state
+then_asked (stopped stop state) goes whole part rest same = refl
+
+asked_in_parts : {T S Q : Type 0} {A : Q → Type 0} {X Y : Type 0} (answers : Answers T S Q A) (state : T)
+    (part : Asking Q A X) (next : X → Asking Q A Y) → asked_to_end answers state (and_then part next)
+    ≡ asked_to_end answers state part
+    ++ asked_then (evaluated answers state part) (λ value after. asked_to_end answers after (next value))
+asked_in_parts answers state (answered value) next = refl
+asked_in_parts answers state (ask question more) next =
+    ap (λ asked. question ∷ asked)
+    (then_asked (answers state question) (λ answer after. evaluated answers after (more answer)) _ _
+    (λ value after. asked_to_end answers after (next value))
+    (λ answer after. asked_in_parts answers after (more answer) next))
+
+one_more : {Q : Type 0} (is : Bool) (question : Q) (whole part : List Q) (rest : ℕ) → length whole ≡ length part + rest
+    → length (cond is (question ∷ whole) whole) ≡ length (cond is (question ∷ part) part) + rest
+one_more true question whole part rest e = omega (arith, e)
+one_more false question whole part rest e = e
+
+fresh_in_both : {Q : Type 0} (is : Q → Bool) (part rest : List Q)
+    → length (filter is (part ++ rest)) ≡ length (filter is part) + length (filter is rest)
+fresh_in_both is [] rest = omega arith
+fresh_in_both is (question ∷ part) rest =
+    one_more (is question) question (filter is (part ++ rest)) (filter is part) (length (filter is rest))
+    (fresh_in_both is part rest)
+
+module _ {T Q : Type 0} {A : Q → Type 0} {X Y : Type 0} (told : Told T Q A) (state : T)
+    (part : Asking Q A (Result X TraceFault)) (next : X → Asking Q A (Result Y TraceFault)) where
+  abbrev behind : List Q
+  behind = asked_then (evaluated told.answers state part) (λ value after. asked_to_end told.answers after (on_ok next value))
+
+  spent_in_parts : length (fresh_to_end told state (and_ok part next))
+      ≡ length (fresh_to_end told state part) + length (filter told.fresh behind)
+  spent_in_parts =
+      ap (λ asked. length (filter told.fresh asked)) (asked_in_parts told.answers state part (on_ok next))
+      ∙ fresh_in_both told.fresh (asked_to_end told.answers state part) behind
+
+  spent_first : length (fresh_to_end told state part) ≤ length (fresh_to_end told state (and_ok part next))
+  spent_first = (let e = spent_in_parts in omega (arith, e))
+
+  spent_then : (value : X) (middle : T) → Comes told.answers state part (Ok value) middle
+      → length (fresh_to_end told state (and_ok part next))
+      ≡ length (fresh_to_end told state part) + length (fresh_to_end told middle (next value))
+  spent_then value middle one =
+      spent_in_parts
+      ∙ ap (λ end. length (fresh_to_end told state part)
+      + length (filter told.fresh (asked_then end (λ value after. asked_to_end told.answers after (on_ok next value)))))
+      (ended_ok (evaluated told.answers state part) value middle one.is one.leaves)
+
 -- a part that has its value, and what comes behind it
 pub met_then : {T Q : Type 0} {A : Q → Type 0} {X Y : Type 0} (before middle after : Outside T Q A) (part : Asking Q A (Result X TraceFault)) (next : X → Asking Q A (Result Y TraceFault)) (value : X) (result : Result Y TraceFault)
     → Met before part (Ok value) middle → Met middle (next value) result after → Met before (and_ok part next) result after
@@ -89,6 +145,9 @@ met_then {X = X} before middle after part next value result first rest = record 
   later = (let one = first.later in let two = rest.later in omega arith);
   cause = λ e. (let two = rest.cause e in let same : middle.faults ≡ before.faults = first.quiet (λ f. cc) in subst (λ n. Rose n after.faults) same two);
   quiet = λ ne. rest.quiet ne ∙ first.quiet (λ f. cc);
+  steps = λ told tells. (let one = first.steps told tells in let two = rest.steps told (first.told told tells) in
+      let all = spent_then told before.state part next value middle.state (first.comes told tells ((λ e. cc), (λ e. cc))) in
+      omega (arith, one, two, all));
   learns = learns_then before.looks middle.looks after.looks (succeeded X value ≡ Err Memory) (result ≡ Err Memory)
       (IsAskedBy before part) (IsAskedBy middle (next value)) (IsAskedBy before (and_ok part next)) (λ e. cc)
       (asked_first before part next) (λ path. asked_behind before middle part next value path first) first.learns
@@ -106,6 +165,7 @@ met_failed {X = X} {Y = Y} before after part next fault first = record {
   later = first.later;
   cause = λ e. first.cause (let f : fault ≡ ReadFault = cc in ap Err f);
   quiet = λ ne. first.quiet (λ e. ne (let f : fault ≡ ReadFault = cc in ap Err f));
+  steps = λ told tells. (let one = first.steps told tells in let all = spent_first told before.state part next in omega (arith, one, all));
   learns = learns_as before.looks after.looks (failed X fault ≡ Err Memory) (failed Y fault ≡ Err Memory)
       (IsAskedBy before part) (IsAskedBy before (and_ok part next)) (λ e. (let f : fault ≡ Memory = cc in ap Err f))
       (asked_first before part next) first.learns;
@@ -122,6 +182,7 @@ met_lost {X = X} {Y = Y} before after part next value first = record {
   later = first.later;
   cause = λ e. absurd (cc);
   quiet = λ ne. first.quiet (λ e. cc);
+  steps = λ told tells. (let one = first.steps told tells in let all = spent_first told before.state part next in omega (arith, one, all));
   learns = learns_as before.looks after.looks (succeeded X value ≡ Err Memory) (failed Y Memory ≡ Err Memory)
       (IsAskedBy before part) (IsAskedBy before (and_ok part next)) (λ e. refl) (asked_first before part next)
       first.learns;
@@ -137,6 +198,7 @@ met_now before value result given = record {
   later = omega arith;
   cause = λ e. absurd (given.no_look e);
   quiet = λ ne. refl;
+  steps = λ told tells. omega arith;
   learns = learns_nothing before.looks (result ≡ Err Memory) (IsAskedBy before (answered value));
   covered = λ finished covers. covers;
 }
@@ -150,6 +212,7 @@ met_memory {X = X} before whole = record {
   later = omega arith;
   cause = λ e. absurd (cc);
   quiet = λ ne. refl;
+  steps = λ told tells. omega arith;
   learns = learns_nothing before.looks (failed X Memory ≡ Err Memory) (IsAskedBy before whole);
   covered = λ finished covers. covers;
 }
@@ -164,12 +227,16 @@ pub record Left {T Q : Type 0} {A : Q → Type 0} {X : Type 0} (before : Outside
   pub told : (told : Told T Q A) → before.told told → middle.told told
   pub keeps : middle.keeps ≡ before.keeps
   pub quiet : middle.faults ≡ before.faults
+  pub steps :
+      (told : Told T Q A) → before.told told
+      → middle.steps + length (fresh_to_end told middle.state rest)
+      ≤ before.steps + length (fresh_to_end told before.state whole)
   pub learns : Learns before.looks middle.looks ⊥ (IsAskedBy before whole)
   pub covered : IsCovered before.looks → IsCovered middle.looks
   pub within : (path : List ℕ) → IsAskedBy middle rest path → IsAskedBy before whole path
 
 pub left_begins : {T Q : Type 0} {A : Q → Type 0} {X : Type 0} (before : Outside T Q A) (whole : Asking Q A (Result X TraceFault)) → Left before whole before whole
-left_begins before whole = record { same = λ told tells. refl; told = λ told tells. tells; keeps = refl; quiet = refl; learns = learns_nothing before.looks ⊥ (IsAskedBy before whole); covered = λ covers. covers; within = λ path is. is }
+left_begins before whole = record { same = λ told tells. refl; told = λ told tells. tells; keeps = refl; quiet = refl; steps = λ told tells. omega arith; learns = learns_nothing before.looks ⊥ (IsAskedBy before whole); covered = λ covers. covers; within = λ path is. is }
 
 pub left_completes : {T Q : Type 0} {A : Q → Type 0} {X : Type 0} (before middle after : Outside T Q A) (whole rest : Asking Q A (Result X TraceFault)) (result : Result X TraceFault)
     → Left before whole middle rest → Met middle rest result after → Met before whole result after
@@ -180,6 +247,7 @@ left_completes before middle after whole rest result left met = record {
   later = (let one = left.quiet in let two = met.later in omega arith);
   cause = λ e. subst (λ n. Rose n after.faults) left.quiet (met.cause e);
   quiet = λ ne. met.quiet ne ∙ left.quiet;
+  steps = λ told tells. (let one = met.steps told (left.told told tells) in let all = left.steps told tells in omega (arith, one, all));
   learns = learns_then before.looks middle.looks after.looks ⊥ (result ≡ Err Memory) (IsAskedBy before whole)
       (IsAskedBy middle rest) (IsAskedBy before whole) (λ e. e) (λ path is. is) left.within left.learns met.learns;
   covered = λ finished covers. met.covered finished (left.covered covers);
@@ -193,6 +261,9 @@ left_goes {X = X} before middle later whole part next value left met = record {
   told = λ told tells. met.told told (left.told told tells);
   keeps = met.keeps ∙ left.keeps;
   quiet = met.quiet (λ e. cc) ∙ left.quiet;
+  steps = λ told tells. (let one = met.steps told (left.told told tells) in let all = left.steps told tells in
+      let parts = spent_then told middle.state part next value later.state (met.comes told (left.told told tells) ((λ e. cc), (λ e. cc))) in
+      omega (arith, one, all, parts));
   learns = learns_then before.looks middle.looks later.looks ⊥ ⊥ (IsAskedBy before whole) (IsAskedBy middle part)
       (IsAskedBy before whole) (λ e. e) (λ path is. is)
       (λ path is. left.within path (asked_first middle part next path is)) left.learns

@@ -1,20 +1,25 @@
 -- What is known of answers from outside, and what a call that asks for them comes to.
---     Told T Q A                       answers, what each question is answered where nothing stops it, and at which
---                                      paths it looks
+--     Told T Q A                       answers, what each question is answered where nothing stops it, at which paths
+--                                      it looks, and whether it is fresh: the answer to another one is kept
 --     Outside T Q A                    which answers are those that are told; the state that they see; how many looks
---                                      failed; what stays as it is; what was looked at, and is known
+--                                      failed; how many steps were taken; what stays as it is; what was looked at, and
+--                                      is known
 --     Kept                             what looks leave as it is
 --     fine asking                      an asking whose value is `Ok`
 --     IsTold result                    no failed look and no want of memory ended the call
 --     Comes answers before asking result after     by these answers the asking comes to this, and leaves that state
+--     asked_to_end answers state asking    the questions that an evaluation asks until it ends or is stopped, in order
+--     fresh_to_end told state asking       the fresh ones among them
 --     Met before asking result after   the call comes to what the asking comes to, unless a look fails or memory is
---                                      wanting; and what it learns of the folder
+--                                      wanting; it takes at most one step for each fresh question; and what it learns
+--                                      of the folder
 --     looks_of told asked              the paths at which these questions look
 --     IsAskedBy before asking path     the asking's questions look at the path, by all answers that are told
 --     AnswererState                    the answers to the questions of a walk, which see a trail of looks
-use Rattle.std.specs.Prelude.{◌≡◌, ◌≢◌, ◌≤◌, ℕ, List, flat_map, Contains, Option, Result, Ok, Err}
-use Rattle.asking_spec.specs.Askings.{Asking, answered, and_then, questions}
-use Rattle.asking_spec.specs.Evaluation.{Answers, evaluated, AreAlways}
+use Rattle.std.specs.Prelude.{◌≡◌, ◌≢◌, ◌≤◌, ◌+◌, ℕ, Bool, List, [], ◌∷◌, length, filter, flat_map, Contains, Option}
+use Rattle.std.specs.Prelude.{Result, Ok, Err}
+use Rattle.asking_spec.specs.Askings.{Asking, answered, ask, and_then, questions}
+use Rattle.asking_spec.specs.Evaluation.{Ended, ends, stopped, Answers, evaluated, AreAlways}
 use Rattle.tree_spec.specs.declared.LimitName.{LimitName}
 use Rattle.tree_spec.specs.Counts.{Rose}
 use Rattle.tree_spec.specs.LookLimits.{Trail}
@@ -36,12 +41,14 @@ pub record Told (T Q : Type 0) (A : Q → Type 0) : Type 0 where
   pub answers : Answers T LimitName Q A
   pub always : (question : Q) → A question
   pub looks : Q → List (List ℕ)
+  pub fresh : Q → Bool
 
 -- own: more than one answer can be told where what is known leaves more than one open
 pub record Outside (T Q : Type 0) (A : Q → Type 0) : Type 1 where
   pub told : Told T Q A → Type 0
   pub state : T
   pub faults : ℕ
+  pub steps : ℕ
   pub keeps : Kept
   pub looks : State
 
@@ -56,6 +63,19 @@ abbrev pub IsAskedBy : {T Q X : Type 0} {A : Q → Type 0} → Outside T Q A →
 IsAskedBy {T} {Q} {X} {A} before asking path =
     (told : Told T Q A) → before.told told → AreAlways told.answers told.always
     → Contains (looks_of told (questions told.always asking)) path
+
+-- goes on behind an answer
+abbrev pub asked_then : {X T S Q : Type 0} → Ended X T S → (X → T → List Q) → List Q
+asked_then (ends answer state) next = next answer state
+asked_then (stopped stop state) next = []
+
+abbrev pub asked_to_end : {T S Q : Type 0} {A : Q → Type 0} {X : Type 0} → Answers T S Q A → T → Asking Q A X → List Q
+asked_to_end answers state (answered value) = []
+asked_to_end answers state (ask question next) =
+    question ∷ asked_then (answers state question) (λ answer after. asked_to_end answers after (next answer))
+
+abbrev pub fresh_to_end : {T Q : Type 0} {A : Q → Type 0} {X : Type 0} → Told T Q A → T → Asking Q A X → List Q
+fresh_to_end told state asking = filter told.fresh (asked_to_end told.answers state asking)
 
 -- the call wasn't ended by a look that failed, nor by want of memory
 abbrev pub IsTold : {X : Type 0} → Result X TraceFault → Type 0
@@ -76,6 +96,9 @@ pub record Met {T Q X : Type 0} {A : Q → Type 0} (before : Outside T Q A) (ask
   pub later : before.faults ≤ after.faults
   pub cause : result ≡ Err ReadFault → Rose before.faults after.faults
   pub quiet : result ≢ Err ReadFault → after.faults ≡ before.faults
+  pub steps :
+      (told : Told T Q A) → before.told told
+      → after.steps ≤ before.steps + length (fresh_to_end told before.state asking)
   pub learns : Learns before.looks after.looks (result ≡ Err Memory) (IsAskedBy before asking)
   pub covered : result ≢ Err Memory → IsCovered before.looks → IsCovered after.looks
 

@@ -1,4 +1,3 @@
-ghost use Rattle.std.specs.Prelude.{ℕ};
 ghost use Rattle.asking_spec.specs.Askings.{ask, answered};
 ghost use Rattle.trace_spec.specs.Questions.{of_module, of_request};
 ghost use Rattle.trace_walk.specs.Answering.{IsAnswered, IsSourceAnswered};
@@ -26,21 +25,19 @@ pub enum NodeAnswer {
 
 /// What answers the questions of a walk.
 pub trait Answerer {
-    /// The answers and what they see, where they are told; how many looks failed; and what stays as it is.
+    /// The answers and what they see, where they are told; how many looks failed; how many steps were taken; and what
+    /// stays as it is.
     ghost state: { Self → AnswererState };
 
     /// What it knows of earlier answers is right.
     ghost ready: { Self → Type 0 };
-
-    /// How many questions it answered.
-    ghost steps: { Self → ℕ };
 
     /// The source of the file at a path, or why it has none.
     fn module(&mut self, alloc: Global, path: &Path) -> Result<Result<Source, NoSource>, TraceFault>
         requires ready { ready self.old }
         ensures met { Met (state self.old) (fine (ask (of_module path.now) answered)) (sources result)
             (state self.new) }
-        ensures answered { IsSourceAnswered result (steps self.old) (steps self.new) (ready self.new) };
+        ensures answered { IsSourceAnswered result (state self.old).steps (state self.new).steps (ready self.new) };
 
     /// Where a specifier in the file at a path leads.
     fn request(
@@ -54,5 +51,5 @@ pub trait Answerer {
         ensures met { Met (state self.old)
             (fine (ask (of_request conditions.now parent.now specifier.now) answered)) (resolutions result)
             (state self.new) }
-        ensures answered { IsAnswered result (steps self.old) (steps self.new) (ready self.new) };
+        ensures answered { IsAnswered result (state self.old).steps (state self.new).steps (ready self.new) };
 }

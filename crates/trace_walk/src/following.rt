@@ -39,7 +39,7 @@ pub(crate) fn follow<A: Answerer>(
         → Met (A.state answerer.old) (follows config.now (before_of tables.old) r specifier.now)
         (done result tables.new) (A.state answerer.new) }
     ensures one { IsOneRequest config.now (IsUrl referrer.now.text) tables.old tables.new
-        (A.steps answerer.old) (A.steps answerer.new) (A.ready answerer.new) result }
+        (A.state answerer.old).steps (A.state answerer.new).steps (A.ready answerer.new) result }
 {
     let asked = check(alloc, tables.targets.len(), referrer, specifier)?;
     let conditions = config.conditions();

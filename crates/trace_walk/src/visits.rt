@@ -38,7 +38,7 @@ pub fn walk<A: Answerer>(
 ) -> Result<Tables, TraceFault>
     requires ready { A.ready answerer.old }
     ensures met { Met (A.state answerer.old) (trace config.now) (traced_of result) (A.state answerer.new) }
-    ensures walked { IsWalked config.now result (A.steps answerer.old) (A.steps answerer.new) }
+    ensures walked { IsWalked config.now result (A.state answerer.old).steps (A.state answerer.new).steps }
 {
     let mut tables = Tables::new(alloc);
     visit_page(alloc, answerer, config, &mut tables)?;
@@ -59,7 +59,7 @@ fn visit_page<A: Answerer>(
         → Met (A.state answerer.old) (visited (rules config.now) (before_of tables.old) the_page)
         (done result tables.new) (A.state answerer.new) }
     ensures walks { Walks config.now 0 0 ⊤ tables.old tables.new
-        (A.steps answerer.old) (A.steps answerer.new) (A.ready answerer.new) result }
+        (A.state answerer.old).steps (A.state answerer.new).steps (A.ready answerer.new) result }
     ensures counts { OnOk result (Counts (length config.now.entries) tables.old tables.new) }
 {
     let referrer = page_referrer(alloc, config)?;
@@ -101,7 +101,7 @@ fn follow_all<A: Answerer>(
         (followed (rules config.now) (before_of tables.old) r (specifiers_of specifiers.entry))
         (done result tables.new) (A.state answerer.new) }
     ensures walks { Walks config.now 0 0 (IsUrl referrer.now.text) tables.old tables.new
-        (A.steps answerer.old) (A.steps answerer.new) (A.ready answerer.new) result }
+        (A.state answerer.old).steps (A.state answerer.new).steps (A.ready answerer.new) result }
     ensures counts { OnOk result (Counts (length (specifiers_of specifiers.entry)) tables.old tables.new) }
 {
     let mut next = 0;
@@ -128,7 +128,7 @@ fn visit_modules<A: Answerer>(
         (before_of tables.old) 0) (done result tables.new) (A.state answerer.new) }
     ensures walks { Walks config.now (length tables.new.modules.entries) (limit_number Modules)
         (AllNamed config.now tables.old.modules.entries) tables.old tables.new
-        (A.steps answerer.old) (A.steps answerer.new) (A.ready answerer.new) result }
+        (A.state answerer.old).steps (A.state answerer.new).steps (A.ready answerer.new) result }
     ensures counts { OnOk result (Counts 0 tables.old tables.new) }
 {
     let mut place = 0;
@@ -155,7 +155,7 @@ fn visit<A: Answerer>(
         → Met (A.state answerer.old) (visited (rules config.now) (before_of tables.old) (a_module m))
         (done result tables.new) (A.state answerer.new) }
     ensures walks { Walks config.now 1 1 (AllNamed config.now tables.old.modules.entries) tables.old tables.new
-        (A.steps answerer.old) (A.steps answerer.new) (A.ready answerer.new) result }
+        (A.state answerer.old).steps (A.state answerer.new).steps (A.ready answerer.new) result }
     ensures counts { OnOk result (Counts 0 tables.old tables.new) }
 {
     let (module, name) = tables.modules.get_index(place).unwrap();
@@ -178,7 +178,7 @@ fn visit_module<A: Answerer>(
         → Met (A.state answerer.old) (visited (rules config.now) (before_of tables.old) (a_module m))
         (done result tables.new) (A.state answerer.new) }
     ensures walks { Walks config.now 1 1 (IsUrl referrer.now.text) tables.old tables.new
-        (A.steps answerer.old) (A.steps answerer.new) (A.ready answerer.new) result }
+        (A.state answerer.old).steps (A.state answerer.new).steps (A.ready answerer.new) result }
     ensures counts { OnOk result (Counts 0 tables.old tables.new) }
 {
     match answerer.module(alloc, &referrer.path)? {

@@ -8,6 +8,7 @@ use Rattle.request_trace.specs.Footprints.{IsFootprint}
 use Rattle.request_trace.specs.Showing.{Traced, gathered_of}
 use Rattle.request_trace.specs.Tracing.{Traces}
 use Rattle.request_trace.proofs.AnswerLemmas.{traces_nothing}
+use Rattle.request_trace.proofs.AskedQuestions.{takes_nothing}
 use Rattle.request_trace.proofs.JoinedTables.{traces_lost, as_trace, takes_trace}
 use Rattle.request_trace.proofs.NamedModules.{named_at_base}
 use Rattle.request_trace.proofs.folder_trace.trace.Goals as goal
@@ -18,6 +19,10 @@ returns-in_err-base-clause-traces g c =
     subst (λ (r : Result Traced TraceFault). Traces c.args.config.now before c.args.known.now (gathered_of r) before c.args.known.now)
     (sym (handed c.from_residual.result Memory c.from_residual.ensures.1))
     (traces_nothing c.args.config.now before c.args.known.now)
+
+pub returns-in_err-base-clause-asked : goal.returns-in_err-base-clause-asked
+returns-in_err-base-clause-asked g c =
+    takes_nothing (g.F.Folder.state c.args.folder.now).holds c.args.known.now c.args.config.now c.args.steps.now
 
 pub returns-in_err-trace-clause-traces : goal.returns-in_err-trace-clause-traces
 returns-in_err-trace-clause-traces g c =

@@ -11,7 +11,7 @@ use Rattle.trace_walk.proofs.visits.follow_all.Given as goal
 abbrev pub invariant-loop-next : goal.invariant-loop-next
 invariant-loop-next g l = record {
   left : (r : Referrer Module) → IsReferrer l.config r l.referrer → AllNamed l.config l.fn.tables.modules.entries → Left (g.A.Answerer.state l.fn.answerer) (followed (rules l.config) (before_of l.fn.tables) r (specifiers_of l.specifiers)) (g.A.Answerer.state l.answerer) (followed (rules l.config) (before_of l.tables) r (drop l.next (specifiers_of l.specifiers)));
-  advances : Advances l.config 0 (IsUrl l.referrer.text) l.fn.tables l.tables (g.A.Answerer.steps l.fn.answerer) (g.A.Answerer.steps l.answerer) (g.A.Answerer.ready l.answerer);
+  advances : Advances l.config 0 (IsUrl l.referrer.text) l.fn.tables l.tables (g.A.Answerer.state l.fn.answerer).steps (g.A.Answerer.state l.answerer).steps (g.A.Answerer.ready l.answerer);
   counts : Counts l.next l.fn.tables l.tables;
   within : l.next ≤ length (specifiers_of l.specifiers);
 }

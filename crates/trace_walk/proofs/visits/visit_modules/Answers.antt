@@ -53,7 +53,7 @@ pub returns-clause-walks : goal.returns-clause-walks
 returns-clause-walks g c =
     let all : c.loop-place.place ≡ length c.loop-place.tables.modules.entries = (let e = c.len.ensures.len in omega (arith, e, c.loop-place.invariant.within, c.loop-place-test.false)) in
     walks_done _ _ 20000 _ _ _ _ _ _ _ c.loop-place.invariant.few
-    (subst (λ visits. Advances c.args.config.now visits (AllNamed c.args.config.now c.args.tables.now.modules.entries) c.args.tables.now c.loop-place.tables (g.A.Answerer.steps c.args.answerer.now) (g.A.Answerer.steps c.loop-place.answerer) (g.A.Answerer.ready c.loop-place.answerer)) all c.loop-place.invariant.advances)
+    (subst (λ visits. Advances c.args.config.now visits (AllNamed c.args.config.now c.args.tables.now.modules.entries) c.args.tables.now c.loop-place.tables (g.A.Answerer.state c.args.answerer.now).steps (g.A.Answerer.state c.loop-place.answerer).steps (g.A.Answerer.ready c.loop-place.answerer)) all c.loop-place.invariant.advances)
 
 pub returns-clause-counts : goal.returns-clause-counts
 returns-clause-counts g c = c.loop-place.invariant.counts

@@ -12,10 +12,10 @@ pub returns-clause-met : goal.returns-clause-met
 returns-clause-met g c =
     met_by
     (c.args.self.now.folder.ghost_name ∷ c.args.self.now.known.ghost_name ∷ c.args.self.now.steps.ghost_name
-    ∷ c.args.self.now.trail.ghost_name ∷ [])
+    ∷ c.args.self.now.trail.ghost_name ∷ []) c.args.self.now.steps.now c.module_source-found.new.steps
     (state (g.F.Folder.state c.args.self.now.folder.now) c.args.self.now.known.now c.args.self.now.trail.now)
     (state (g.F.Folder.state c.module_source-found.new.folder) c.module_source-found.new.known c.module_source-found.new.trail)
-    (of_module c.args.path.now) (looked source_in c.module_source-found.result) (sources c.source_answer.result) c.source_answer.ensures.is c.module_source-found.ensures.answered
+    (of_module c.args.path.now) (looked source_in c.module_source-found.result) (sources c.source_answer.result) (search rules) c.source_answer.ensures.is c.module_source-found.ensures.answered
 
 pub returns-clause-answered : goal.returns-clause-answered
 returns-clause-answered g c = record {
