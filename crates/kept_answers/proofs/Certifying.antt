@@ -263,6 +263,7 @@ module _ {X : Type 0} (asking : LookAsking X) (value : X) (seen : List LookSeen)
           middle.folder after.folder (λ e. cc) to.answered.folder rest.folder;
       possible = rest.possible;
     }
+
 -- ---- an answer behind looks at the paths of its question
 
 abbrev at_end : Trail → Ended (Unit {0}) Trail LimitName

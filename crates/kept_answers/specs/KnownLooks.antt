@@ -44,7 +44,8 @@ pub record IsSeenAgain (before : State) (looks : List LookSeen) (after : State) 
   pub each : All (IsAsKnown after.known) looks
   pub answered : Answered (afresh before) (look_at_each (paths_of looks)) (given tt) after
 
-pub record LooksTo (before : State) (looks : List LookSeen) (response : Response (Unit {0})) (after : State) : Type 0 where
+pub record LooksTo (before : State) (looks : List LookSeen) (response : Response (Unit {0}))
+    (after : State) : Type 0 where
   pub same : List LookSeen
   pub next : LookSeen
   pub rest : List LookSeen

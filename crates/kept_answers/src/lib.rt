@@ -1,6 +1,6 @@
-//! The answers of a walk that are kept for a later one, each with the looks that decided it. A kept answer is looked at
-//! again: the paths that decided it are looked at in their order, each counted, up to the first that sees otherwise. Where
-//! none does, it is the answer; else the question is asked anew. The clauses are those of `module_source` and `resolve`.
+//! The answers of a walk that are kept for a later one, each with the looks that decided it. The paths of these looks
+//! are looked at again, in their order, each counted, up to the first that sees otherwise. Where none does, the kept
+//! answer is given; else the question is asked anew. The clauses are those of `module_source` and `resolve`.
 #![tactic(auto)]
 
 mod key;

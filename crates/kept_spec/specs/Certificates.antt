@@ -4,8 +4,8 @@
 --     looks_seen sights paths                looks at these paths, with what stands there
 --     AreSeen sights looks                   what was seen stands at each of these paths
 --     IsShown looks                          something shows these looks
---     IsAnswered sights asking value looks   where this stands, the asking comes to this value, and its footprint is the
---                                            paths of these looks
+--     IsAnswered sights asking value looks   where this stands, the asking comes to this value, and its footprint is
+--                                            the paths of these looks
 --     IsCertified asking value looks         so it is wherever what was seen stands at these paths
 use Rattle.std.specs.Prelude.{◌≡◌, ℕ, List, map, All, Option}
 use Rattle.asking_spec.specs.Askings.{outcome}

@@ -14,8 +14,8 @@ replayed paths value = and_then (look_at_each paths) (λ done. answered value)
 abbrev pub IsFront : List (List ℕ) → List (List ℕ) → Type 0
 IsFront front paths = (rest : List (List ℕ)) × (paths ≡ front ++ rest)
 
--- own: in a new question. It ends with the same value, or the same limit stops it at the same look, and the trail behind
--- it is the same
+-- own: in a new question. It ends with the same value, or the same limit stops it at the same look, and the trail
+-- behind it is the same
 abbrev pub ReplaysFootprint : Type 0 → Type 0
 ReplaysFootprint X =
     (limits : LookLimits) (sights : Sights) (trail : Trail) (asking : LookAsking X)

@@ -3,8 +3,8 @@
 #![tactic(auto)]
 
 ghost use Rattle.kept_spec.specs.CertificateExamples.{CertificateExamples};
-ghost use Rattle.kept_spec.specs.Laws.{OutcomeIsCertified, EndIsCertified, CertifiedIsAsked, OneCertified, SeenIfAgreed};
-ghost use Rattle.kept_spec.specs.Laws.{FrontIsLooked, FrontGoesBefore, FrontStops, QuestionIsCounted};
+ghost use Rattle.kept_spec.specs.Laws.{OutcomeIsCertified, EndIsCertified, CertifiedIsAsked, OneCertified};
+ghost use Rattle.kept_spec.specs.Laws.{SeenIfAgreed, FrontIsLooked, FrontGoesBefore, FrontStops, QuestionIsCounted};
 ghost use Rattle.kept_spec.specs.Replays.{ReplaysFootprint};
 
 /// To look at the footprint of an asking again, in its order, is to ask it.
