@@ -1,0 +1,6 @@
+pub mod KnownLemmas
+pub mod Certifying
+pub mod LookingAgain
+pub mod TableLemmas
+pub mod ModuleLemmas
+pub mod RequestLemmas

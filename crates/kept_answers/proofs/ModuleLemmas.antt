@@ -1,0 +1,40 @@
+-- The sources of modules that are kept.
+--     is_kept              what the table says of a module
+--     source_as            the same of a source that is as this one
+--     put_copy             to keep one more, under a copy of its path, leaves the table right
+use Rattle.std.proofs.Common.{◌≡◌, ℕ, List, Option, Some, Result, Ok, IfSome, subst, sym}
+use Rattle.std.specs.Prelude.{bytes_eq, if◌then◌else◌, OnOk, OnErr}
+use Rattle.tree_spec.proofs.ToldStates.{if_some}
+use Rattle.tree_spec.specs.Trees.{Tree}
+use Rattle.trace_spec.specs.Questions.{module_source}
+use Rattle.kept_answers.specs.Entries.{ModuleSeen, source_seen}
+use Rattle.kept_answers.specs.KnownLooks.{IsKept}
+use Rattle.kept_answers.specs.Tables.{modules_at, IsModuleOf, AreModules}
+use Rattle.kept_answers.specs.declared.modules.KeptModules.{KeptModules}
+use Rattle.kept_answers.proofs.TableLemmas.{put_right, one_path}
+
+pub is_kept : (told : Option Tree) (path : List ℕ) (kept : ModuleSeen) → IfSome told (λ tree. IsModuleOf path kept)
+    → IfSome told (λ tree. IsKept (module_source path) (Ok (source_seen kept)) kept.looks)
+is_kept told path kept right =
+    if_some {P = λ tree. IsModuleOf path kept}
+    {Q = λ tree. IsKept (module_source path) (Ok (source_seen kept)) kept.looks} told (λ tree of. of.is) right
+
+put_module : {E : Type 0} (path : List ℕ) (kept : ModuleSeen) (old new : KeptModules) (result : Result (Unit {0}) E)
+    → OnOk result ((other : List ℕ) → modules_at new other
+    ≡ (if bytes_eq path other then Some kept else modules_at old other))
+    → OnErr result ((other : List ℕ) → modules_at new other ≡ modules_at old other) → IsModuleOf path kept
+    → AreModules old → AreModules new
+put_module path kept old new result set stays is are = record {
+  each = put_right IsModuleOf bytes_eq path kept (modules_at old) (modules_at new) result (one_path path) set stays is
+      are.each;
+}
+
+-- under a copy of the path
+pub put_copy : {E : Type 0} (path copy : List ℕ) (kept : ModuleSeen) (old new : KeptModules)
+    (result : Result (Unit {0}) E) → copy ≡ path
+    → OnOk result ((other : List ℕ) → modules_at new other
+    ≡ (if bytes_eq copy other then Some kept else modules_at old other))
+    → OnErr result ((other : List ℕ) → modules_at new other ≡ modules_at old other) → IsModuleOf path kept
+    → AreModules old → AreModules new
+put_copy path copy kept old new result same set stays is are =
+    put_module copy kept old new result set stays (subst (λ p. IsModuleOf p kept) (sym same) is) are

@@ -1,0 +1,3 @@
+pub mod KnownLooks
+pub mod Entries
+pub mod Tables

@@ -1,0 +1,98 @@
+ghost use Rattle.std.specs.Prelude.{◌≡◌, None, Some, IfOk, IfSome, OnOk, OnErr, option_copied};
+ghost use Rattle.std.specs.Prelude.{if◌then◌else◌};
+ghost use Rattle.std.specs.HashMap as map;
+ghost use Rattle.kept_answers.specs.Entries.{Request, is_request};
+ghost use Rattle.kept_answers.specs.Tables.{requests_at, IsRequestOf, AreRequests};
+
+use crate::key::RequestKey;
+use crate::looks::LookedAt;
+use condition_match::Conditions;
+use node_resolve::Found;
+use shared_types::{Listed, Memory, Text};
+use std::alloc::Global;
+use std::collections::HashMap;
+use std::rc::Rc;
+
+/// The module to which a request leads, and the looks that decided it.
+#[derive(Drop)]
+pub struct KeptRequest {
+    pub(crate) found: Rc<Found>,
+    pub(crate) looks: Rc<Listed<LookedAt>>,
+}
+
+impl KeptRequest {
+    /// The same, with all of it shared.
+    pub fn copy(&self) -> Result<KeptRequest, Memory>
+        ensures found { IfOk result (λ copy. copy.found.value ≡ self.now.found.value) }
+        ensures looks { IfOk result (λ copy. copy.looks.value ≡ self.now.looks.value) }
+    {
+        Ok(KeptRequest {
+            found: Rc::clone(&self.found)?,
+            looks: Rc::clone(&self.looks)?,
+        })
+    }
+}
+
+/// Node's answers that are kept under conditions of these names, each under its request.
+#[derive(Drop)]
+pub struct KeptRequests {
+    pub(crate) names: Listed<Text>,
+    pub(crate) entries: HashMap<RequestKey, KeptRequest>,
+}
+
+impl KeptRequests {
+    /// Nothing is kept.
+    pub fn new(alloc: Global, conditions: &Conditions) -> Result<KeptRequests, Memory>
+        ensures none { IfOk result (λ table. (request : Request) → requests_at table request ≡ None) }
+        ensures names { IfOk result (λ table. table.names ≡ conditions.now) }
+    {
+        Ok(KeptRequests {
+            names: names_of(alloc, conditions)?,
+            entries: HashMap::new(alloc),
+        })
+    }
+
+    /// What is kept of a request.
+    pub fn get(&self, request: &RequestKey) -> Option<&KeptRequest>
+        ensures get { option_copied result ≡ requests_at self.now request.now }
+        ensures right { AreRequests self.now
+            → IfSome (option_copied result) (λ kept. IsRequestOf self.now.names request.now kept) }
+    {
+        self.entries.get(request)
+    }
+
+    /// Keeps the answer to a request.
+    pub fn put(&mut self, request: RequestKey, kept: KeptRequest) -> Result<(), Memory>
+        ensures names { self.new.names ≡ self.old.names }
+        ensures right { IsRequestOf self.old.names request kept → AreRequests self.old → AreRequests self.new }
+    {
+        insert(&mut self.entries, request, kept)
+    }
+}
+
+fn names_of(alloc: Global, conditions: &Conditions) -> Result<Listed<Text>, Memory>
+    ensures { IfOk result (λ names. names ≡ conditions.now) }
+{
+    let mut names = Listed::new(alloc);
+    for index in 0..conditions.len() {
+        let Some(name) = conditions.at(index) else {
+            unreachable!();
+        };
+        names.push(name.copy(alloc)?)?;
+    }
+    Ok(names)
+}
+
+fn insert(
+    entries: &mut HashMap<RequestKey, KeptRequest>,
+    request: RequestKey,
+    kept: KeptRequest,
+) -> Result<(), Memory>
+    ensures set { OnOk result ((other : Request) → map.get is_request entries.new other
+        ≡ (if is_request request other then Some kept else map.get is_request entries.old other)) }
+    ensures same { OnErr result ((other : Request)
+        → map.get is_request entries.new other ≡ map.get is_request entries.old other) }
+{
+    entries.insert(request, kept)?;
+    Ok(())
+}

@@ -1,0 +1,211 @@
+//! The module to which a request leads, as it is kept or anew.
+ghost use Rattle.std.specs.Prelude.{◌≡◌, ◌≤◌, ◌+◌, List, Ok, IfOk, IfSome};
+ghost use Rattle.tree_spec.specs.LookAskings.{look_at_each};
+ghost use Rattle.tree_spec.specs.LookLimits.{begun};
+ghost use Rattle.node_spec.specs.EsmResolve as spec;
+ghost use Rattle.node_resolve.specs.Places.{module_of};
+ghost use Rattle.node_resolve.specs.Responses.{node_fault, responded};
+ghost use Rattle.package_lookup.specs.Answered.{state, Answered};
+ghost use Rattle.package_lookup.specs.Responses.{looked};
+ghost use Rattle.kept_spec.specs.Certificates.{LookSeen};
+ghost use Rattle.kept_answers.specs.KnownLooks.{done, AreLooksAt, IsKept};
+ghost use Rattle.kept_answers.specs.Tables.{IsRequestOf, AreRequests};
+
+use crate::key::RequestKey;
+use crate::looks::{LookedAt, look_again, looks_of};
+use crate::requests::{KeptRequest, KeptRequests};
+use condition_match::Conditions;
+use node_resolve::{Cause, Found, NodeFault, resolve};
+use package_lookup::{Known, LookupFault, Trail, some_sights};
+use shared_types::{Listed, Memory, Steps, Text};
+use std::alloc::Global;
+use std::rc::Rc;
+use std::sync::ledger::Ledger;
+use tree_model::{Folder, Path};
+
+/// The module that a specifier gives in the file at a path: what `resolve` gives, without a step where it is kept and
+/// what decided it stands there still. It is put into the next table. Both tables are those of these conditions.
+pub fn request_answer<F: Folder, L: Ledger>(
+    alloc: Global,
+    known: &mut Known,
+    folder: &mut F,
+    trail: &mut Trail,
+    parent: &Path,
+    specifier: &str,
+    conditions: &Conditions,
+    steps: &mut Steps<L>,
+    kept: &KeptRequests,
+    next: &mut KeptRequests,
+) -> Result<Rc<Found>, NodeFault>
+    requires kept { kept.now.names ≡ conditions.now }
+    requires next { next.old.names ≡ conditions.now }
+    requires right { IfSome (F.state folder.old).holds (λ tree. AreRequests kept.now) }
+    ensures answered { Answered (state (F.state folder.old) known.old (begun trail.old))
+        (spec.node conditions.now parent.now specifier.now)
+        (responded (λ found. module_of found.value) result) (state (F.state folder.new) known.new trail.new) }
+    ensures cost { steps.new ≤ steps.old + 1 }
+    ensures names { next.new.names ≡ next.old.names }
+    ensures right { IfSome (F.state folder.old).holds (λ tree. AreRequests next.old → AreRequests next.new) }
+{
+    match key_of(alloc, parent, specifier) {
+        Err(_) => {
+            trail.begin();
+            Err(NodeFault::Memory)
+        }
+        Ok(request) => match kept.get(&request) {
+            None => request_anew(
+                alloc, known, folder, trail, parent, specifier, conditions, steps, next, request,
+            ),
+            Some(found) => request_again(
+                alloc, known, folder, trail, parent, specifier, conditions, steps, next, request,
+                found,
+            ),
+        },
+    }
+}
+
+fn key_of(alloc: Global, parent: &Path, specifier: &str) -> Result<RequestKey, Memory>
+    ensures { IfOk result (λ key. key ≡ record { parent = parent.now; specifier = specifier.now }) }
+{
+    let parent = parent.copy(alloc)?;
+    let specifier = Text::of(alloc, specifier)?;
+    Ok(RequestKey::new(parent, specifier))
+}
+
+// The kept module, where the looks that decided it see the same; else the module anew.
+fn request_again<F: Folder, L: Ledger>(
+    alloc: Global,
+    known: &mut Known,
+    folder: &mut F,
+    trail: &mut Trail,
+    parent: &Path,
+    specifier: &str,
+    conditions: &Conditions,
+    steps: &mut Steps<L>,
+    next: &mut KeptRequests,
+    request: RequestKey,
+    found: &KeptRequest,
+) -> Result<Rc<Found>, NodeFault>
+    requires request { request ≡ record { parent = parent.now; specifier = specifier.now } }
+    requires next { next.old.names ≡ conditions.now }
+    requires right { IfSome (F.state folder.old).holds (λ tree. IsRequestOf conditions.now request found.now) }
+    ensures answered { Answered (state (F.state folder.old) known.old (begun trail.old))
+        (spec.node conditions.now parent.now specifier.now)
+        (responded (λ found. module_of found.value) result) (state (F.state folder.new) known.new trail.new) }
+    ensures cost { steps.new ≤ steps.old + 1 }
+    ensures names { next.new.names ≡ next.old.names }
+    ensures right { IfSome (F.state folder.old).holds (λ tree. AreRequests next.old → AreRequests next.new) }
+{
+    match look_again(alloc, known, folder, trail, found.looks.as_slice()) {
+        Err(fault) => Err(fault_of(fault)),
+        Ok(false) => request_anew(
+            alloc, known, folder, trail, parent, specifier, conditions, steps, next, request,
+        ),
+        Ok(true) => match keep_again(next, request, found) {
+            Err(_) => Err(NodeFault::Memory),
+            Ok(own) => Ok(own),
+        },
+    }
+}
+
+// A fault of looks alone.
+fn fault_of(fault: LookupFault) -> NodeFault
+    ensures { result ≡ node_fault fault }
+{
+    match fault {
+        LookupFault::ReadFault => NodeFault::ReadFault,
+        LookupFault::Limit { which } => NodeFault::Limit { which },
+        LookupFault::InvalidConfig => NodeFault::Refused(Cause::InvalidConfig),
+        LookupFault::Memory => NodeFault::Memory,
+    }
+}
+
+fn keep_again(
+    next: &mut KeptRequests,
+    request: RequestKey,
+    found: &KeptRequest,
+) -> Result<Rc<Found>, Memory>
+    ensures found { IfOk result (λ own. own.value ≡ found.now.found.value) }
+    ensures names { next.new.names ≡ next.old.names }
+    ensures right { IsRequestOf next.old.names request found.now → AreRequests next.old → AreRequests next.new }
+{
+    let own = Rc::clone(&found.found)?;
+    next.put(request, found.copy()?)?;
+    Ok(own)
+}
+
+// The module, by new looks, which are kept with it.
+fn request_anew<F: Folder, L: Ledger>(
+    alloc: Global,
+    known: &mut Known,
+    folder: &mut F,
+    trail: &mut Trail,
+    parent: &Path,
+    specifier: &str,
+    conditions: &Conditions,
+    steps: &mut Steps<L>,
+    next: &mut KeptRequests,
+    request: RequestKey,
+) -> Result<Rc<Found>, NodeFault>
+    requires request { request ≡ record { parent = parent.now; specifier = specifier.now } }
+    requires next { next.old.names ≡ conditions.now }
+    ensures answered { Answered (state (F.state folder.old) known.old (begun trail.old))
+        (spec.node conditions.now parent.now specifier.now)
+        (responded (λ found. module_of found.value) result) (state (F.state folder.new) known.new trail.new) }
+    ensures cost { steps.new ≤ steps.old + 1 }
+    ensures names { next.new.names ≡ next.old.names }
+    ensures right { IfSome (F.state folder.old).holds (λ tree. AreRequests next.old → AreRequests next.new) }
+{
+    some_sights();
+    match resolve(
+        alloc, known, folder, trail, parent, specifier, conditions, steps,
+    ) {
+        Err(fault) => Err(fault),
+        Ok(found) => match keep_request(alloc, known, folder, trail, next, request, found) {
+            Err(fault) => Err(fault_of(fault)),
+            Ok(own) => Ok(own),
+        },
+    }
+}
+
+// Keeps a module with the looks of the present question.
+fn keep_request<F: Folder>(
+    alloc: Global,
+    known: &mut Known,
+    folder: &mut F,
+    trail: &mut Trail,
+    next: &mut KeptRequests,
+    request: RequestKey,
+    found: Found,
+) -> Result<Rc<Found>, LookupFault>
+    ensures answered { Answered (state (F.state folder.old) known.old trail.old) (look_at_each trail.old.question)
+        (looked done result) (state (F.state folder.new) known.new trail.new) }
+    ensures found { IfOk result (λ own. own.value ≡ found) }
+    ensures names { next.new.names ≡ next.old.names }
+    ensures right { ((looks : List LookSeen) → AreLooksAt known.new trail.old.question looks
+        → IsKept (spec.node next.old.names request.parent request.specifier) (Ok (module_of found)) looks)
+        → AreRequests next.old → AreRequests next.new }
+{
+    let looks = looks_of(alloc, known, folder, trail)?;
+    let own = put_request(alloc, next, request, found, looks)?;
+    Ok(own)
+}
+
+fn put_request(
+    alloc: Global,
+    next: &mut KeptRequests,
+    request: RequestKey,
+    found: Found,
+    looks: Listed<LookedAt>,
+) -> Result<Rc<Found>, Memory>
+    ensures found { IfOk result (λ own. own.value ≡ found) }
+    ensures names { next.new.names ≡ next.old.names }
+    ensures right { IsKept (spec.node next.old.names request.parent request.specifier) (Ok (module_of found)) looks
+        → AreRequests next.old → AreRequests next.new }
+{
+    let found = Rc::new(alloc, found)?;
+    let looks = Rc::new(alloc, looks)?;
+    let own = Rc::clone(&found)?;
+    next.put(request, KeptRequest { found, looks })?;
+    Ok(own)
+}

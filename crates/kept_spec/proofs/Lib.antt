@@ -1,0 +1,4 @@
+pub mod Replaying
+pub mod Certifying
+pub mod FrontLooks
+pub mod examples

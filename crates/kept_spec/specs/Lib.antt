@@ -1,0 +1,4 @@
+pub mod Replays
+pub mod Certificates
+pub mod Laws
+pub mod CertificateExamples
