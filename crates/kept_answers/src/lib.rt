@@ -1,6 +1,7 @@
 //! The answers of a walk that are kept for a later one, each with the looks that decided it. The paths of these looks
 //! are looked at again, in their order, each counted, up to the first that sees otherwise. Where none does, the kept
-//! answer is given; else the question is asked anew. The clauses are those of `module_source` and `resolve`.
+//! answer is given; else the question is asked anew. The clauses say of the answers what those of `module_source` and
+//! `resolve` say, but for the footprint of a `Found`; that an answer is kept, and given without a step, none says.
 #![tactic(auto)]
 
 mod key;
