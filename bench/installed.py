@@ -13,7 +13,8 @@ import maps
 
 INSTALLED = "/usr/share/nodejs"
 LINK = [bench.PROGRAM, "link", "--base", maps.BASE]
-TRIES = 5
+# The runs of each program, in turn.
+TURNS = 15
 
 
 class Site:
@@ -58,12 +59,9 @@ class Site:
             if os.path.exists(path):
                 os.remove(path)
 
-    def link(self, tries=1):
-        runs = []
-        for _ in range(tries):
-            self.clear()
-            runs.append(bench.Run(LINK + [bench.ENTRY], self.folder))
-        return min(runs, key=lambda run: run.seconds)
+    def link(self):
+        self.clear()
+        return bench.Run(LINK + [bench.ENTRY], self.folder)
 
     def has_map(self, specifier):
         self.put_module([specifier])
@@ -81,22 +79,31 @@ class Site:
         self.records = [os.path.join(self.packages, name, "package.json") for name in self.names()]
 
 
+def fewest(runs):
+    """The fastest of a few runs, with the fewest seconds of processor time of any."""
+    run = min(runs, key=lambda run: run.seconds)
+    run.processor = min(run.processor for run in runs)
+    return run
+
+
 def measure(work):
     site = Site(os.path.join(work, "installed"))
     asked = site.served()
     site.put_module(asked)
-    run = site.link(TRIES)
+    run = site.link()
     if run.status != 0:
         bench.say(False, f"installed packages: status {run.status}, {run.out!r}")
         return
     site.read_paths()
+    turns = [(site.link(), bench.floor(site, 1), bench.esbuild(site, 1), bench.node(site, 1)) for _ in range(TURNS)]
+    run, sums, esbuild, node = (fewest(runs) for runs in zip(*turns))
     label = f"installed packages, {len(asked)} specifiers"
     print(f"      {label}: {run.times()}, {run.memory / bench.MIB:.1f} MiB; {run.out.strip()}", flush=True)
-    sums = bench.floor(site, TRIES)
-    bench.say(run.seconds <= 1.6 * sums.seconds, f"{label}: {run.seconds / sums.seconds:.2f} times as long as "
-                                                 f"sha384sum, {sums.seconds:.3f} s, at most 1.6")
-    bench.against_peer("esbuild", run, bench.esbuild(site, TRIES), 0.2, label)
-    bench.against_peer("Node with es-module-lexer", run, bench.node(site, TRIES), 0.1, label)
+    bench.say(run.seconds <= 1.6 * sums.seconds, f"{label}: {run.seconds / sums.seconds:.2f} times as long as sha384sum, "
+                                                 f"{sums.seconds:.3f} s, at most 1.6; of processor time "
+                                                 f"{run.processor / sums.processor:.2f} of {sums.processor:.3f} s")
+    bench.against_peer("esbuild", run, esbuild, 0.2, label)
+    bench.against_peer("Node with es-module-lexer", run, node, 0.1, label)
 
 
 def main():

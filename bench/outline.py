@@ -4,9 +4,12 @@ It runs the layers `outline` and `tokens` of crates/layer_measure, which `rt ci`
 times hold all that these programs do: they start, read the file, see that it is UTF-8, and then read the text. The line
 that each prints is checked, against what the text is made to have. Beside them stands Debian's node-es-module-lexer,
 where it is installed: the time of its parse alone, once, of the text that Node has read.
+
+`python3 -B bench/outline.py instructions` counts by Debian's valgrind what both layers take for a byte instead.
 """
 
 import os
+import re
 import shutil
 import subprocess
 import sys
@@ -31,6 +34,8 @@ SPEED = 100_000_000
 PACKAGES_SPEED = 160_000_000
 # The part of the pace at which tokens alone are read.
 PACE = 0.9
+# The runs of ordinary code, and of the texts of packages: outline and tokens in turn.
+TURNS = 15
 # How much longer than the peer it may take.
 PEER_TIMES = 2
 # How much longer twice the text may take.
@@ -139,17 +144,22 @@ def peer(path):
     return min(runs)
 
 
+def paces(path, wanted):
+    """The fewest seconds of outlines and of tokens alone, in turn; the line that the outline prints is this one."""
+    mine, lexing = [], []
+    for _ in range(TURNS):
+        mine.append(measure.right("outline", [*OUTLINE, path], wanted))
+        lexing.append(measure.run([*TOKENS, path])[0])
+    return min(mine), min(lexing)
+
+
 def ordinary(folder):
     """Ordinary code: the pace, beside that of tokens alone, and beside the peer."""
     text, wanted = code(SIZE)
     path, size = measure.written(folder, "module.mjs", text)
-    mine, lexing = [], []
-    for _ in range(TRIES):
-        mine.append(measure.right("code", [*OUTLINE, path], wanted))
-        lexing.append(measure.run([*TOKENS, path])[0])
-    seconds, alone = min(mine), min(lexing)
+    seconds, alone = paces(path, wanted)
     say(size / seconds >= SPEED, f"ordinary code: {seconds:.3f} s for {size} bytes, {size / seconds / 1e6:.0f} MB/s, "
-                                 f"at least {SPEED / 1e6:.0f}")
+                                 f"at least {SPEED / 1e6:.0f}; its tokens alone {size / alone / 1e6:.0f} MB/s")
     say(alone / seconds >= PACE, f"its tokens alone: {alone:.3f} s, so {alone / seconds:.2f} of their pace, "
                                  f"at least {PACE}")
     other = peer(path)
@@ -160,32 +170,57 @@ def ordinary(folder):
                                            f"at most {PEER_TIMES}")
 
 
-def packages(folder):
-    """The texts of packages that are installed, one behind the other, again and again."""
+def joined():
+    """The texts of packages that are installed, one behind the other, again and again; and how many they are."""
     texts = []
     for name in PACKAGES:
         path = os.path.join(INSTALLED, name)
         if os.path.isfile(path):
             with open(path, encoding="utf-8") as file:
                 texts.append(file.read())
-    if not texts:
+    text = "\n;\n".join(texts) + "\n;\n"
+    return text * max(1, SIZE // len(text)), len(texts)
+
+
+def packages(folder):
+    """The texts of packages."""
+    text, count = joined()
+    if not count:
         print("      no texts of packages: skipped")
         return
-    joined = "\n;\n".join(texts) + "\n;\n"
-    path, size = measure.written(folder, "module.mjs", joined * max(1, SIZE // len(joined)))
+    path, size = measure.written(folder, "module.mjs", text)
     line = measure.run([*OUTLINE, path])[1]
-    seconds = measure.fewest("packages", [*OUTLINE, path], line)
-    alone = min(measure.run([*TOKENS, path])[0] for _ in range(TRIES))
+    seconds, alone = paces(path, line)
     say(line.endswith("requests, a module") and size / seconds >= PACKAGES_SPEED,
-        f"{len(texts)} texts of packages: {seconds:.3f} s for {size} bytes, {size / seconds / 1e6:.0f} MB/s, "
+        f"{count} texts of packages: {seconds:.3f} s for {size} bytes, {size / seconds / 1e6:.0f} MB/s, "
         f"at least {PACKAGES_SPEED / 1e6:.0f}; their tokens alone {size / alone / 1e6:.0f} MB/s")
 
 
+def instructions(command):
+    """How many instructions a run takes."""
+    done = subprocess.run(["valgrind", "--tool=callgrind", "--callgrind-out-file=/dev/null", *command], capture_output=True,
+                          text=True, check=True)
+    return int(re.search(r"Collected : (\d+)", done.stderr).group(1))
+
+
+def counted(folder):
+    """What a byte takes."""
+    text, count = joined()
+    for label, text in (("ordinary code", code(SIZE)[0]), (f"{count} texts of packages", text)):
+        path, size = measure.written(folder, "module.mjs", text)
+        mine, lexing = instructions([*OUTLINE, path]), instructions([*TOKENS, path])
+        print(f"      {label}: {mine / size:.2f} instructions for a byte, its tokens alone {lexing / size:.2f}, so "
+              f"{lexing / mine:.3f} of their pace", flush=True)
+
+
 def main():
-    if sys.argv[1:]:
-        sys.exit("usage: python3 -B bench/outline.py")
+    if sys.argv[1:] not in ([], ["instructions"]):
+        sys.exit("usage: python3 -B bench/outline.py [instructions]")
     measure.need()
     with tempfile.TemporaryDirectory(prefix="salimgub-outline-") as folder:
+        if sys.argv[1:]:
+            counted(folder)
+            return
         ordinary(folder)
         packages(folder)
         for shape in HOSTILE:

@@ -1,8 +1,8 @@
 """Tells what `link` spends its instructions on, by groups of functions, on 2,000 packages and on npm packages as Debian installs
 them, where they stand in /usr/share/nodejs. It takes Debian's valgrind.
 
-`python3 -B bench/shares.py [PROGRAM]` measures another program than build/salimgub. What the C library, and what functions of
-the core library that call nothing else, cost counts for the function that called them.
+`python3 -B bench/shares.py [PROGRAM]..` measures other programs than build/salimgub, each in a column of its own. What the C
+library, and what functions of the core library that call nothing else, cost counts for the function that called them.
 """
 
 import collections
@@ -90,7 +90,8 @@ def group(name, callee=""):
     return next((title for title, pattern in GROUPS if re.match(rf"({pattern})\b", name)), "the rest")
 
 
-def tell(label, path, program):
+def shares_of(path, program):
+    """The cost of each group, and of all."""
     profile = Profile(path)
     low = profile.low(program)
     shares = collections.Counter()
@@ -102,25 +103,40 @@ def tell(label, path, program):
             shares[group(caller, callee)] += cost
     total = sum(profile.own.values())
     shares["the rest"] = total - sum(cost for title, cost in shares.items() if title != "the rest")
-    print(f"{label}: {total:,} instructions")
-    for title, cost in shares.most_common():
-        print(f"  {100 * cost / total:5.1f} %  {title}")
+    return shares, total
+
+
+def tell(label, columns):
+    """A table of the groups, by what they cost in the last column: millions of instructions, and their share."""
+    print(f"{label}: " + " | ".join(f"{total:,} instructions" for _, total in columns))
+    titles = sorted(set().union(*(shares for shares, _ in columns)), key=lambda title: -columns[-1][0][title])
+    for title in titles:
+        cells = (f"{shares[title] / 1e6:6.1f} ({100 * shares[title] / total:4.1f} %)" for shares, total in columns)
+        print(f"  {' | '.join(cells)}  {title}", flush=True)
+
+
+def profiled(program, work, folder):
+    """What a link by the program says where no map is there yet, and the costs of its groups."""
+    for name in ("importmap.json", "importmap.project.json"):
+        if os.path.exists(os.path.join(folder, name)):
+            os.remove(os.path.join(folder, name))
+    out = os.path.join(work, "callgrind")
+    done = subprocess.run(["valgrind", "--tool=callgrind", f"--callgrind-out-file={out}", program, *bench.WORDS], cwd=folder,
+                          capture_output=True, text=True, check=True)
+    return done.stdout.strip(), shares_of(out, program)
 
 
 def measure(work):
-    program = os.path.realpath(sys.argv[1] if len(sys.argv) > 1 else bench.PROGRAM)
+    programs = [os.path.realpath(program) for program in sys.argv[1:] or [bench.PROGRAM]]
     sites = {"2,000 packages": trees.packages(os.path.join(work, "packages"), 2000).folder}
     if os.path.isdir(installed.INSTALLED):
         site = installed.Site(os.path.join(work, "installed"))
         asked = site.served()
         site.put_module(asked)
-        site.clear()
         sites[f"{len(asked)} specifiers of installed packages"] = site.folder
     for label, folder in sites.items():
-        out = os.path.join(work, "callgrind")
-        done = subprocess.run(["valgrind", "--tool=callgrind", f"--callgrind-out-file={out}", program, *bench.WORDS], cwd=folder,
-                              capture_output=True, text=True, check=True)
-        tell(f"{label}, {done.stdout.strip()}", out, program)
+        runs = [profiled(program, work, folder) for program in programs]
+        tell(f"{label}, {runs[-1][0]}", [costs for _, costs in runs])
 
 
 def measure_shares(work):
