@@ -47,7 +47,7 @@ use Rattle.module_sources.specs.Shown.{FindsSource, IsSource}
 use Rattle.trace_walk.specs.Kinds.{IsOfAnswers, IsOfWalk}
 use Rattle.trace_walk.specs.Shown.{traced_of}
 use Rattle.trace_walk.specs.declared.tables.Tables.{Tables}
-use Rattle.request_trace.specs.Answering.{result_by, Freshness, all_fresh, told_by, ToldBy, TakesStep, answers_of}
+use Rattle.request_trace.specs.Answering.{result_by, Freshness, Stays, all_fresh, told_by, ToldBy, TakesStep, answers_of}
 use Rattle.request_trace.specs.Tracing.{known_of, IsOfFootprint, TakesSteps, Traces}
 use Rattle.request_trace.proofs.FootprintPaths.{footprint_contains}
 
@@ -97,7 +97,7 @@ pub answers_always : (sights : Sights) → AreAlways (answers sights) (always si
 answers_always sights trail after question answer e =
     ends_outcome (limited look_limits sights) sights (limited_always sights) (begun trail) after (put question) answer e
 
-abbrev afresh : State → State
+abbrev pub afresh : State → State
 afresh before = state before.folder before.known (begun before.trail)
 
 -- a question by itself is all that is asked
@@ -112,7 +112,7 @@ pub step_for_each : (before : State) (question : Question) (taken spent : ℕ) �
 step_for_each before question taken spent few =
     if_all before.folder.holds (λ tree sights sees. omega (arith, few))
 
-module _ (is_fresh : Freshness) (references : List ℕ) (taken spent : ℕ) (before after : State) (question : Question) (response : Response (Answer question))
+module _ (is_fresh : Freshness) (stays : Stays) (taken spent : ℕ) (before after : State) (question : Question) (response : Response (Answer question))
     (result : Result (Answer question) TraceFault) where
   told_here : Answered (afresh before) (put question) response after → (by : Tree)
       → before.folder.holds ≡ Some by → Tells by (afresh before) (put question) response after
@@ -141,7 +141,7 @@ module _ (is_fresh : Freshness) (references : List ℕ) (taken spent : ℕ) (bef
 
   -- a look of the question is one at which the walk's question looks
   asked_by : (path : List ℕ) → IsLookOf (afresh before) (put question) path
-      → IsAskedBy (answers_of is_fresh references taken before) (fine (ask question answered)) path
+      → IsAskedBy (answers_of is_fresh stays taken before) (fine (ask question answered)) path
   asked_by path is told by are =
       let each : (sights : Sights) → Sees by.tree before.known sights → Contains (looks sights (put question)) path =
       subst (λ holds. IfSome holds
@@ -166,18 +166,23 @@ module _ (is_fresh : Freshness) (references : List ℕ) (taken spent : ℕ) (bef
       (sym (one_asked (answers by.sights before.trail question) question)) (each by.sights by.sees))
 
   pub met_by : TakesStep is_fresh before question taken spent → result ≡ result_by response → Answered (afresh before) (put question) response after
-      → Met (answers_of is_fresh references taken before) (fine (ask question answered)) result (answers_of is_fresh references spent after)
+      → Met (answers_of is_fresh stays taken before) (fine (ask question answered)) result (answers_of is_fresh stays spent after)
   met_by takes is a = record {
     comes = comes_told is a;
     told = told_still a;
-    keeps = (λ i. record { references = references; holds = a.folder.tree i; writes = a.folder.writes i });
+    keeps = (λ i. record {
+      references = stays.references;
+      names = stays.names;
+      holds = a.folder.tree i;
+      writes = a.folder.writes i;
+    });
     later = a.folder.later;
     cause = λ e. a.folder.cause (read_by response result is e);
     quiet = λ ne. a.folder.quiet (λ e. ne (is ∙ ap result_by e));
     steps = steps_told takes;
     learns = learns_as before after (response ≡ fails no_memory) (result ≡ Err Memory)
         (IsLookOf (afresh before) (put question))
-        (IsAskedBy (answers_of is_fresh references taken before) (fine (ask question answered))) (λ e. is ∙ ap result_by e) asked_by
+        (IsAskedBy (answers_of is_fresh stays taken before) (fine (ask question answered))) (λ e. is ∙ ap result_by e) asked_by
         (learns_at (afresh before) after before.trail after.trail (response ≡ fails no_memory)
         (IsLookOf (afresh before) (put question)) (learns_by (afresh before) after (put question) response a));
     covered = λ finished covers. a.covered (λ e. finished (is ∙ ap result_by e)) covers;
@@ -185,41 +190,41 @@ module _ (is_fresh : Freshness) (references : List ℕ) (taken spent : ℕ) (bef
 
 -- ---- the walk
 
-is_traced : (is_fresh : Freshness) (told : Option Tree) (references others : List ℕ) (taken spent : ℕ) (config : Config) (before after : State)
+is_traced : (is_fresh later_fresh : Freshness) (told : Option Tree) (stays others : Stays) (taken spent : ℕ) (config : Config) (before after : State)
     (result : Result Gathered TraceFault) → before.folder.holds ≡ told → before.trail ≡ no_trail
-    → Met (answers_of is_fresh references taken before) (trace config) result (answers_of is_fresh others spent after)
+    → Met (answers_of is_fresh stays taken before) (trace config) result (answers_of later_fresh others spent after)
     → IfSome told
     (λ tree. (sights : Sights) → Sees tree before.known sights → IsTold result → traced sights config ≡ result)
-is_traced is_fresh None references others taken spent config before after result holds fresh met = tt
-is_traced is_fresh (Some tree) references others taken spent config before after result holds fresh met = λ sights sees is_told.
+is_traced is_fresh later_fresh None stays others taken spent config before after result holds fresh met = tt
+is_traced is_fresh later_fresh (Some tree) stays others taken spent config before after result holds fresh met = λ sights sees is_told.
     ap (λ trail. result_of (evaluated (answers sights) trail (trace config))) (sym fresh)
     ∙ (met.comes (told_by is_fresh sights) (record { tree = tree; sights = sights; holds = holds; sees = sees; are = refl })
     is_told).is
 
 -- what the walk's questions look at is of the footprint
-of_footprint : (is_fresh : Freshness) (told : Option Tree) (references : List ℕ) (taken : ℕ) (config : Config) (before : State) (path : List ℕ)
-    → before.folder.holds ≡ told → IsAskedBy (answers_of is_fresh references taken before) (trace config) path
+of_footprint : (is_fresh : Freshness) (told : Option Tree) (stays : Stays) (taken : ℕ) (config : Config) (before : State) (path : List ℕ)
+    → before.folder.holds ≡ told → IsAskedBy (answers_of is_fresh stays taken before) (trace config) path
     → IfSome told
     (λ tree. (sights : Sights) → Sees tree before.known sights → Contains (footprint sights (generation config)) path)
-of_footprint is_fresh None references taken config before path holds is = tt
-of_footprint is_fresh (Some tree) references taken config before path holds is = λ sights sees.
+of_footprint is_fresh None stays taken config before path holds is = tt
+of_footprint is_fresh (Some tree) stays taken config before path holds is = λ sights sees.
     footprint_contains sights (generation config) path
     (subst (λ paths. Contains paths path) (sym (looks_are_of_questions sights config).looks)
     (is (told_by is_fresh sights) (record { tree = tree; sights = sights; holds = holds; sees = sees; are = refl })
     (answers_always sights)))
 
-pub traces_by : (is_fresh : Freshness) (references others : List ℕ) (taken spent : ℕ) (config : Config) (before after : State)
+pub traces_by : (is_fresh later_fresh : Freshness) (stays others : Stays) (taken spent : ℕ) (config : Config) (before after : State)
     (result : Result Gathered TraceFault) → before.trail ≡ no_trail
-    → Met (answers_of is_fresh references taken before) (trace config) result (answers_of is_fresh others spent after)
+    → Met (answers_of is_fresh stays taken before) (trace config) result (answers_of later_fresh others spent after)
     → IfErr result (IsOfWalk config)
     → Traces config before.folder before.known result after.folder after.known
-traces_by is_fresh references others taken spent config before after result fresh met kind = record {
-  is = is_traced is_fresh before.folder.holds references others taken spent config before after result refl fresh met;
+traces_by is_fresh later_fresh stays others taken spent config before after result fresh met kind = record {
+  is = is_traced is_fresh later_fresh before.folder.holds stays others taken spent config before after result refl fresh met;
   learns = learns_at before after no_trail no_trail (result ≡ Err Memory)
       (IsOfFootprint config before.folder before.known)
       (learns_as before after (result ≡ Err Memory) (result ≡ Err Memory)
-      (IsAskedBy (answers_of is_fresh references taken before) (trace config)) (IsOfFootprint config before.folder before.known)
-      (λ e. e) (λ path. of_footprint is_fresh before.folder.holds references taken config before path refl) met.learns);
+      (IsAskedBy (answers_of is_fresh stays taken before) (trace config)) (IsOfFootprint config before.folder before.known)
+      (λ e. e) (λ path. of_footprint is_fresh before.folder.holds stays taken config before path refl) met.learns);
   looks = record {
     tree = ap (λ (keeps : Kept). keeps.holds) met.keeps;
     writes = ap (λ (keeps : Kept). keeps.writes) met.keeps;

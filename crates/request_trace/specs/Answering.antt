@@ -7,7 +7,8 @@
 --     ToldBy is_fresh folder known told      these are the answers so, as far as looks tell
 --     TakesStep is_fresh before question taken spent      no step, or one if the question is fresh, by all that looks
 --                                                         tell
---     answers_of is_fresh references steps looks      what answers, in this state, behind so many steps
+--     Stays                         the references, and names that stay
+--     answers_of is_fresh stays steps looks      what answers, in this state, behind so many steps
 use Rattle.std.specs.Prelude.{◌≡◌, ◌≤◌, ◌+◌, ℕ, Bool, true, List, [], ◌∷◌, length, filter, Some, Result, Ok, Err}
 use Rattle.std.specs.Prelude.{IfSome}
 use Rattle.tree_spec.specs.LookAskings.{Sights, looks}
@@ -60,13 +61,23 @@ TakesStep is_fresh before question taken spent =
     (λ tree. (sights : Sights) → Sees tree before.known sights
     → spent ≤ taken + length (filter (is_fresh sights) (question ∷ [])))
 
-abbrev pub answers_of : Freshness → List ℕ → ℕ → State → AnswererState
-answers_of is_fresh references steps looks =
+-- own: what an answerer leaves as it is
+pub record Stays : Type 0 where
+  pub references : List ℕ
+  pub names : List (List ℕ)
+
+abbrev pub answers_of : Freshness → Stays → ℕ → State → AnswererState
+answers_of is_fresh stays steps looks =
     record {
       told = ToldBy is_fresh looks.folder looks.known;
       state = looks.trail;
       faults = looks.folder.look_faults;
       steps = steps;
-      keeps = record { references = references; holds = looks.folder.holds; writes = looks.folder.write_faults };
+      keeps = record {
+        references = stays.references;
+        names = stays.names;
+        holds = looks.folder.holds;
+        writes = looks.folder.write_faults;
+      };
       looks = looks;
     }

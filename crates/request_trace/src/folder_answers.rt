@@ -35,9 +35,11 @@ impl<'a, 'b, 'c, 'd, F: Folder, L: Ledger> Answerer for FolderAnswers<'a, 'b, 'c
     ghost use Rattle.package_lookup.specs.Answered.{state};
     ghost use Rattle.request_trace.specs.Answering.{all_fresh, answers_of};
 
-    ghost state = { λ answers. answers_of all_fresh (answers.folder.ghost_name ∷ answers.known.ghost_name
-        ∷ answers.steps.ghost_name ∷ answers.trail.ghost_name ∷ []) answers.steps.now
-        (state (F.state answers.folder.now) answers.known.now answers.trail.now) };
+    ghost state = { λ answers. answers_of all_fresh (record {
+      references = answers.folder.ghost_name ∷ answers.known.ghost_name ∷ answers.steps.ghost_name
+          ∷ answers.trail.ghost_name ∷ [];
+      names = [];
+    }) answers.steps.now (state (F.state answers.folder.now) answers.known.now answers.trail.now) };
 
     ghost ready = { λ answers. ⊤ };
 

@@ -15,7 +15,7 @@ returns-clause-footprint g c =
     let trail_named : c.walk.new.answerer.trail.ghost_name ≡ _ = fourth_name names in
     let old = g.F.Folder.state c.args.folder.now in
     let new = g.F.Folder.state c.walk.new.answerer.folder.now in
-    footprint_left all_fresh _ _ _ _ c.args.config.now (state old c.args.known.now c.args.trail.now)
+    footprint_left all_fresh all_fresh _ _ _ _ c.args.config.now (state old c.args.known.now c.args.trail.now)
     (state new c.walk.new.answerer.known.now c.walk.new.answerer.trail.now) _ _ c.walk.result c.requires
     c.walk.ensures.met (search rules) (search rules)
 
@@ -31,7 +31,7 @@ returns-clause-traces g c =
       traces =
           traces_moved c.args.config.now old c.args.known.now (traced_of c.walk.result) new _ c.walk.new.answerer.known.now _
           (ap g.F.Folder.state (search rules)) (search rules)
-          (traces_by all_fresh _ _ _ _ c.args.config.now (state old c.args.known.now c.args.trail.now)
+          (traces_by all_fresh all_fresh _ _ _ _ c.args.config.now (state old c.args.known.now c.args.trail.now)
           (state new c.walk.new.answerer.known.now c.walk.new.answerer.trail.now) (traced_of c.walk.result) c.requires
           c.walk.ensures.met (traced_kind c.args.config.now c.walk.result c.walk.ensures.walked.kind));
       tables = c.walk.ensures.walked.tables;

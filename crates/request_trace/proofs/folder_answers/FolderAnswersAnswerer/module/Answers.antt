@@ -12,8 +12,11 @@ use Rattle.request_trace.proofs.folder_answers.FolderAnswersAnswerer.module.Goal
 pub returns-clause-met : goal.returns-clause-met
 returns-clause-met g c =
     met_by all_fresh
-    (c.args.self.now.folder.ghost_name ∷ c.args.self.now.known.ghost_name ∷ c.args.self.now.steps.ghost_name
-    ∷ c.args.self.now.trail.ghost_name ∷ []) c.args.self.now.steps.now c.module_source-found.new.steps
+    (record {
+      references = c.args.self.now.folder.ghost_name ∷ c.args.self.now.known.ghost_name ∷ c.args.self.now.steps.ghost_name
+          ∷ c.args.self.now.trail.ghost_name ∷ [];
+      names = [];
+    }) c.args.self.now.steps.now c.module_source-found.new.steps
     (state (g.F.Folder.state c.args.self.now.folder.now) c.args.self.now.known.now c.args.self.now.trail.now)
     (state (g.F.Folder.state c.module_source-found.new.folder) c.module_source-found.new.known c.module_source-found.new.trail)
     (of_module c.args.path.now) (looked source_in c.module_source-found.result) (sources c.source_answer.result)

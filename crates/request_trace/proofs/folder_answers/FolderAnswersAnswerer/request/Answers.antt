@@ -12,8 +12,11 @@ use Rattle.request_trace.proofs.folder_answers.FolderAnswersAnswerer.request.Goa
 pub returns-clause-met : goal.returns-clause-met
 returns-clause-met g c =
     met_by all_fresh
-    (c.args.self.now.folder.ghost_name ∷ c.args.self.now.known.ghost_name ∷ c.args.self.now.steps.ghost_name
-    ∷ c.args.self.now.trail.ghost_name ∷ []) c.args.self.now.steps.now c.resolve-found.new.steps
+    (record {
+      references = c.args.self.now.folder.ghost_name ∷ c.args.self.now.known.ghost_name ∷ c.args.self.now.steps.ghost_name
+          ∷ c.args.self.now.trail.ghost_name ∷ [];
+      names = [];
+    }) c.args.self.now.steps.now c.resolve-found.new.steps
     (state (g.F.Folder.state c.args.self.now.folder.now) c.args.self.now.known.now c.args.self.now.trail.now)
     (state (g.F.Folder.state c.resolve-found.new.folder) c.resolve-found.new.known c.resolve-found.new.trail)
     (of_request c.args.conditions.now c.args.parent.now c.args.specifier.now) (responded module_of c.resolve-found.result) (resolutions c.node_answer.result)

@@ -1,10 +1,10 @@
-ghost use Rattle.std.specs.Prelude.{◌≢◌, IfErr};
+ghost use Rattle.std.specs.Prelude.{◌≡◌, ◌≢◌, Ok, IfOk, IfErr};
 ghost use Rattle.node_resolve.specs.Places.{module_of};
 ghost use Rattle.node_resolve.specs.Responses.{responded};
 ghost use Rattle.package_lookup.specs.Responses.{fails, never};
 ghost use Rattle.trace_walk.specs.Kinds.{IsOfAnswers};
-ghost use Rattle.trace_walk.specs.Shown.{resolutions};
-ghost use Rattle.request_trace.specs.Answering.{result_by};
+ghost use Rattle.trace_walk.specs.Shown.{answer_of, resolutions};
+ghost use Rattle.kept_trace.specs.Sharing.{IsToldAs};
 
 use crate::kept::Kept;
 use condition_match::Conditions;
@@ -34,16 +34,17 @@ pub struct KeptAnswers<'a, 'b, 'c, 'd, 'e, 'f, F: Folder, L: Ledger> {
 }
 
 impl<'a, 'b, 'c, 'd, 'e, 'f, F: Folder, L: Ledger> Answerer
-    for KeptAnswers<'a, 'b, 'c, 'd, 'e, 'f, F, L>
-{
+    for KeptAnswers<'a, 'b, 'c, 'd, 'e, 'f, F, L> {
     ghost use Rattle.std.specs.Prelude.{[], ◌∷◌};
     ghost use Rattle.package_lookup.specs.Answered.{state};
     ghost use Rattle.request_trace.specs.Answering.{answers_of};
     ghost use Rattle.kept_trace.specs.Ready.{IsReady, is_anew};
 
-    ghost state = { λ answers. answers_of (is_anew answers.kept.now) (answers.folder.ghost_name
-        ∷ answers.known.ghost_name ∷ answers.steps.ghost_name ∷ answers.trail.ghost_name ∷ answers.next.ghost_name ∷ [])
-        answers.steps.now (state (F.state answers.folder.now) answers.known.now answers.trail.now) };
+    ghost state = { λ answers. answers_of (is_anew answers.kept.now) (record {
+      references = answers.folder.ghost_name ∷ answers.known.ghost_name ∷ answers.steps.ghost_name
+          ∷ answers.trail.ghost_name ∷ answers.next.ghost_name ∷ [];
+      names = answers.kept.now.requests.names;
+    }) answers.steps.now (state (F.state answers.folder.now) answers.known.now answers.trail.now) };
 
     ghost ready = { λ answers. IsReady (F.state answers.folder.now) answers.kept.now answers.next.now };
 
@@ -74,7 +75,14 @@ impl<'a, 'b, 'c, 'd, 'e, 'f, F: Folder, L: Ledger> Answerer
     ) -> Result<NodeAnswer, TraceFault> {
         if !self.kept.requests.is_under(conditions) {
             let found = resolve(
-                alloc, self.known, self.folder, self.trail, parent, specifier, conditions, self.steps,
+                alloc,
+                self.known,
+                self.folder,
+                self.trail,
+                parent,
+                specifier,
+                conditions,
+                self.steps,
             );
             return node_answer(found);
         }
@@ -100,16 +108,21 @@ fn shared_answer(
     found: Result<Rc<Found>, NodeFault>,
 ) -> Result<NodeAnswer, TraceFault>
     requires { responded (λ found. module_of found.value) found ≢ fails never }
-    ensures is { result ≢ TraceFault.Memory }
+    ensures is { IsToldAs (responded (λ found. module_of found.value) found) (resolutions result) }
     ensures kind { IfErr result IsOfAnswers }
 {
     match found {
-        Ok(found) => Ok(copy_of(alloc, &found)?),
         Err(fault) => node_answer(Err(fault)),
+        Ok(found) => match copy_of(alloc, &found) {
+            Err(_) => Err(TraceFault::Memory),
+            Ok(answer) => Ok(answer),
+        },
     }
 }
 
-fn copy_of(alloc: Global, found: &Found) -> Result<NodeAnswer, Memory> {
+fn copy_of(alloc: Global, found: &Found) -> Result<NodeAnswer, Memory>
+    ensures { IfOk result (λ answer. answer_of answer ≡ Ok (module_of found.now)) }
+{
     let path = found.path().copy(alloc)?;
     let suffix = found.suffix().copy(alloc)?;
     Ok(NodeAnswer::Resolved { path, suffix })
