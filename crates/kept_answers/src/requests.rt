@@ -1,4 +1,4 @@
-ghost use Rattle.std.specs.Prelude.{◌≡◌, None, Some, IfOk, IfSome, OnOk, OnErr, option_copied, bytes_eq};
+ghost use Rattle.std.specs.Prelude.{◌≡◌, None, Some, IfOk, IfSome, OnOk, OnErr, option_copied, bytes_eq, slice_get};
 ghost use Rattle.std.specs.Prelude.{if◌then◌else◌};
 ghost use Rattle.std.specs.Bool.{Decides};
 ghost use Rattle.std.specs.Cmp.Lexicographic.{pointwise};
@@ -59,7 +59,7 @@ impl KeptRequests {
         ensures same { result ≡ pointwise bytes_eq self.now.names conditions.now }
         ensures is { Decides result (self.now.names ≡ conditions.now) }
     {
-        are_same(self.names.as_slice(), conditions)
+        are_same(&self.names, conditions)
     }
 
     /// What is kept of a request.
@@ -93,18 +93,33 @@ fn names_of(alloc: Global, conditions: &Conditions) -> Result<Listed<Text>, Memo
     Ok(names)
 }
 
-fn are_same(names: &[Text], conditions: &Conditions) -> bool
+fn are_same(names: &Listed<Text>, conditions: &Conditions) -> bool
     ensures { Decides result (names.now ≡ conditions.now) }
 {
     if names.len() != conditions.len() {
         return false;
     }
     for index in 0..names.len() {
-        if &names[index] != conditions.at(index).unwrap() {
+        if !is_same(names, conditions, index) {
             return false;
         }
     }
     true
+}
+
+fn is_same(names: &Listed<Text>, conditions: &Conditions, index: usize) -> bool
+    ensures { Decides result (slice_get names.now index ≡ slice_get conditions.now index) }
+{
+    match names.at(index) {
+        None => match conditions.at(index) {
+            None => true,
+            Some(_) => false,
+        },
+        Some(own) => match conditions.at(index) {
+            None => false,
+            Some(other) => own == other,
+        },
+    }
 }
 
 fn insert(

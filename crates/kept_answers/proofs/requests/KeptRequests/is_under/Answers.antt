@@ -6,5 +6,5 @@ use Rattle.kept_answers.proofs.requests.KeptRequests.is_under.Goals as goal
 
 pub returns-clause-same : goal.returns-clause-same
 returns-clause-same c =
-    one_answer c.are_same.result (pointwise bytes_eq c.args.self.now.names c.args.conditions.now) ?
+    one_answer c.are_same.result (pointwise bytes_eq c.args.self.now.names c.args.conditions.now) c.are_same.ensures
     (pointwise_decides bytes_eq-Decides c.args.self.now.names c.args.conditions.now)
