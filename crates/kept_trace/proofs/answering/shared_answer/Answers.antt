@@ -8,5 +8,5 @@ returns-in-Err-clause-is c = inl c.node_answer.ensures.is
 pub returns-in-Err-copy_of-clause-is : goal.returns-in-Err-copy_of-clause-is
 returns-in-Err-copy_of-clause-is c = inr (Ok (module_of c.in-Ok.found.value), refl, refl)
 
-pub returns-in-Ok-clause-is : goal.returns-in-Ok-clause-is
-returns-in-Ok-clause-is c = inl (ap Ok c.in-Ok-copy_of.ensures)
+pub returns-clause-is : goal.returns-clause-is
+returns-clause-is c = inl (ap Ok c.in-Ok-copy_of.ensures)

@@ -11,7 +11,7 @@ use Rattle.kept_trace.proofs.Walking.{all_left}
 use Rattle.kept_trace.proofs.tracing.tables_again.Goals as goal
 
 pub walk-requires : goal.walk-requires
-walk-requires g c = c.requires.ready
+walk-requires g c = record { ready = c.requires.ready }
 
 pub returns-clause-footprint : goal.returns-clause-footprint
 returns-clause-footprint g c =

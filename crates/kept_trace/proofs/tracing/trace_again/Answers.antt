@@ -10,7 +10,7 @@ use Rattle.request_trace.proofs.JoinedTables.{traces_lost, as_trace, takes_trace
 use Rattle.kept_trace.proofs.tracing.trace_again.Goals as goal
 
 pub tables_again-requires-clause-ready : goal.tables_again-requires-clause-ready
-tables_again-requires-clause-ready g c = c.requires
+tables_again-requires-clause-ready g c = c.requires.ready
 
 pub trace_of-requires : goal.trace_of-requires
 trace_of-requires g c = c.in_ok-tables.ensures.tables

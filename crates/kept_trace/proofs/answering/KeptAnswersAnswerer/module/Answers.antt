@@ -13,9 +13,10 @@ use Rattle.kept_trace.proofs.Readying.{on_ok, modules_right, ready_by_module}
 use Rattle.kept_trace.proofs.answering.KeptAnswersAnswerer.module.Goals as goal
 
 pub module_answer-found-requires : goal.module_answer-found-requires
-module_answer-found-requires g c =
-    modules_right (g.F.Folder.state c.args.self.now.folder.now) c.args.self.now.kept.now c.args.self.now.next.now
-    c.requires.ready
+module_answer-found-requires g c = record {
+  right = modules_right (g.F.Folder.state c.args.self.now.folder.now) c.args.self.now.kept.now
+      c.args.self.now.next.now c.requires.ready;
+}
 
 pub returns-clause-met : goal.returns-clause-met
 returns-clause-met g c =
