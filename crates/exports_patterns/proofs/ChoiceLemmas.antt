@@ -1,6 +1,6 @@
 -- What is found in the index is the choice among the keys.
 use Rattle.std.proofs.Common.{◌≡◌, ◌≢◌, ◌<◌, ◌≤◌, ◌+◌, ◌-◌, ◌++◌, ◌∷◌, ℕ, zero, suc, true, false, List, [], length, take, drop, Some, None, refl, sym, ap, ◌∙◌, subst, arith, length-append, append_assoc}
-use Rattle.std.specs.Prelude.{reverse, slice_get, IsUtf8}
+use Rattle.std.specs.Prelude.{reverse, slice_get, slice_index_or, IsUtf8}
 use Rattle.std.specs.List.{Contains}
 use Rattle.std.specs.Map.{keys_of}
 use Rattle.std.proofs.lemmas.List.{append-nil, reverse-append, reverse-reverse, length-reverse, append_cancel_left, take_at}
@@ -24,8 +24,9 @@ use Rattle.exports_patterns.proofs.KeyLemmas.{is_pattern_match, span_of_pattern,
 -- behind the base and one byte more the text, from its end, begins with the trailer from its end
 turned_rest : (base rest : List ℕ) (first : ℕ) → take (length rest) (reverse (base ++ first ∷ rest)) ≡ reverse rest
 turned_rest base rest first =
-    ap (take (length rest)) (reverse-append base (first ∷ rest) ∙ append_assoc (reverse rest) (first ∷ []) (reverse base))
-    ∙ take_at (reverse rest) (first ∷ [] ++ reverse base) (length rest) (length-reverse rest)
+    let turned : reverse (first ∷ rest) ≡ reverse rest ++ first ∷ [] = reverse-append (first ∷ []) rest in
+    ap (take (length rest)) (reverse-append base (first ∷ rest) ∙ (ap (λ xs. xs ++ reverse base) turned ∙ append_assoc (reverse rest) (first ∷ []) (reverse base)))
+    ∙ take_at (reverse rest) (first ∷ reverse base) (length rest) (length-reverse rest)
 
 part_from_front : (asked base rest back : List ℕ) (first : ℕ) → asked ≡ base ++ first ∷ rest → StartsWith (reverse rest) back → PartStands asked base (reverse back)
 part_from_front asked base rest back first e s =
@@ -165,9 +166,12 @@ module _ (asked : List ℕ) (patterns : List (List ℕ × Group)) where
 -- ---- the keys
 
 name_place : (names : List (List ℕ)) (key : List ℕ) → Contains names key → (place : ℕ) × (slice_get names place ≡ Some key)
-name_place [] key c = (let l = c.1 in absurd (omega arith))
-name_place (name ∷ names) key (zero, l, e) = (0, ap Some e)
-name_place (name ∷ names) key (suc k, l, e) = (let more = name_place names key (k, omega arith, e) in (suc more.0, more.1))
+name_place names key c = (c.0, at_place names c.0 c.1 c.2)
+  where
+    at_place : (xs : List (List ℕ)) (k : ℕ) → k < length xs → slice_index_or xs k key ≡ key → slice_get xs k ≡ Some key
+    at_place [] k l e = absurd (omega arith)
+    at_place (x ∷ xs) zero l e = ap Some e
+    at_place (x ∷ xs) (suc k) l e = at_place xs k (omega arith) e
 
 name_listed : (names : List (List ℕ)) (key : List ℕ) (place : ℕ) → slice_get names place ≡ Some key → Contains names key
 name_listed [] key place e = absurd (cc)

@@ -1,6 +1,6 @@
 -- What stands between a front of a text and the text begins with that front; so links lead to all fronts.
-use Rattle.std.proofs.Common.{◌≡◌, ◌≢◌, ◌<◌, ◌≤◌, ◌+◌, ◌-◌, ◌++◌, ◌∷◌, ℕ, zero, suc, Bool, true, false, List, [], length, get_or, refl, sym, ap, ◌∙◌, subst, arith, length-append}
-use Rattle.std.specs.Prelude.{not, slice_index, slice_index_or, map}
+use Rattle.std.proofs.Common.{◌≡◌, ◌≢◌, ◌<◌, ◌≤◌, ◌+◌, ◌-◌, ◌++◌, ◌∷◌, ℕ, zero, suc, Bool, true, false, List, [], length, get_or, refl, sym, ap, ◌∙◌, subst, arith, length-append, Option, Some, None, Bor}
+use Rattle.std.specs.Prelude.{not, slice_index, slice_index_or, is_some, IsTrue, MatchOption, ◌↔◌}
 use Rattle.std.specs.declared.cmp.Ordering.{Ordering}
 use Rattle.std.specs.declared.cmp.Ordering.TheVariants.{Less, Equal, Greater}
 use Rattle.std.specs.Ordering.{nat_cmp, is_lt, ordering_then, ordering_reverse}
@@ -34,6 +34,10 @@ front_between (a ∷ f) rest (b ∷ e) p q =
       | Equal ↦ λ i p q. (let same : b ≡ a = nat_cmp-IsAntisymmetric b a i in let more = front_between f rest e p q in let tail : e ≡ f ++ more.0 = more.1 in (more.0, (let whole : b ∷ e ≡ a ∷ (f ++ more.0) = cc in whole)))
       | Greater ↦ λ i p q. absurd (true≢false q)
     ] refl p (subst (λ o. is_lt (ordering_then o (slice_cmp nat_cmp (f ++ rest) e)) ≡ false) (swapped b a) q)
+
+pub starts_by : (text front : List ℕ) (found : Option (Bor (List ℕ))) (b : Bool) → MatchOption found ((rest : List ℕ) → text ≢ front ++ rest) (λ rest. text ≡ front ++ rest.now) → b ≡ is_some found → IsTrue b ↔ StartsWith text front
+starts_by text front None b none e = (λ t. absurd (true≢false (sym t ∙ e)), λ s. absurd (none s.0 s.1))
+starts_by text front (Some rest) b is e = (λ t. (rest.now, is), λ s. e)
 
 -- a front isn't above the text
 pub front_below : (f rest : List ℕ) → is_lt (slice_cmp nat_cmp (f ++ rest) f) ≡ false

@@ -1,10 +1,11 @@
 -- One more key is gathered, one more group is made, and what is gathered in the end is the index.
-use Rattle.std.proofs.Common.{◌≡◌, ◌≢◌, ◌≤◌, ◌++◌, ◌∷◌, ℕ, zero, suc, true, false, List, [], length, Option, Some, None, refl, sym, ap, ◌∙◌, subst, arith}
-use Rattle.std.specs.Prelude.{reverse, slice_get, unwrap_or, bytes_eq, IsUtf8}
+use Rattle.std.proofs.Common.{◌≡◌, ◌≢◌, ◌<◌, ◌≤◌, ◌++◌, ◌∷◌, ℕ, zero, suc, true, false, List, [], length, Option, Some, None, refl, sym, ap, ◌∙◌, subst, arith}
+use Rattle.std.specs.Prelude.{reverse, slice_get, slice_index_or, unwrap_or, bytes_eq, IsUtf8}
 use Rattle.std.specs.Ordering.{nat_cmp}
 use Rattle.std.specs.Cmp.Lexicographic.{slice_cmp, nat_list_cmp_total}
 use Rattle.std.specs.FinMap.{slice_cmp-IsAntisymmetric, nat_cmp-IsAntisymmetric}
-use Rattle.std.specs.BTreeMap.{IsOrdered}
+use Rattle.std.specs.BTreeMap.{IsOrdered, is_at}
+use Rattle.std.specs.Map.{lookup}
 use Rattle.std.specs.List.{Contains}
 use Rattle.std.specs.List.Sorted.{IsPermutation}
 use Rattle.std.proofs.lemmas.Bool.{cases_Bool}
@@ -63,7 +64,7 @@ nothing_gathered names exact groups n e g = record {
     no_name (y ∷ xs) i x e s = cc
 
     no_group : (m : Groups) (base : List ℕ) (group : Group) → m.entries ≡ [] → group_at m base ≡ Some group → ⊥
-    no_group m base group e s = ?
+    no_group m base group e s = (let none : group_at m base ≡ None = ap (λ es. lookup (is_at (slice_cmp nat_cmp base)) es) e in cc)
 
 module _ (done : List (List ℕ)) (name : List ℕ) (exact : List (List ℕ × ℕ)) (groups : Groups) (index : ℕ) (at : length done ≡ index) (held : IsGathered done exact groups) where
   abbrev more : List (List ℕ)
@@ -178,7 +179,7 @@ module _ (done : List (List ℕ)) (name : List ℕ) (exact : List (List ℕ × �
         distinct : (other : List ℕ) → bytes_eq other base ≡ false → other ≢ base
         distinct other apart e = let t = (bytes_eq-Decides other base).1 e in cc
 
-        listed_before : (other back : List ℕ) (place : ℕ) → (group : Group) × (group_at groups other ≡ Some group) × Contains group (back, place) → (group : Group) × (group_at after other ≡ Some group) × Contains group (back, place)
+        listed_before : (other back : List ℕ) (place : ℕ) → ((group : Group) × (group_at groups other ≡ Some group) × Contains group (back, place)) → (group : Group) × (group_at after other ≡ Some group) × Contains group (back, place)
         listed_before other back place g =
             elim (cases_Bool (bytes_eq other base)) [
               | inl same ↦ (let e : other ≡ base = (bytes_eq-Decides other base).0 same in
@@ -224,9 +225,12 @@ next_grouped gathered left rest made after base before group next is moved held 
     first_stands : Contains gathered (base, before)
     first_stands = held.within base before (subst (λ xs. Contains xs (base, before)) (sym next) (0, omega arith, refl))
 
+    by_place : (other : List ℕ) (g : Group) (k : ℕ) → k < length ((base, before) ∷ rest) → slice_index_or ((base, before) ∷ rest) k (other, g) ≡ (other, g) → ((base, before) ≡ (other, g)) ⊎ Contains rest (other, g)
+    by_place other g zero l e = inl e
+    by_place other g (suc k) l e = inr (k, omega arith, e)
+
     head_or_behind : (other : List ℕ) (g : Group) → Contains ((base, before) ∷ rest) (other, g) → ((base, before) ≡ (other, g)) ⊎ Contains rest (other, g)
-    head_or_behind other g (zero, l, e) = inl e
-    head_or_behind other g (suc k, l, e) = inr (k, omega arith, e)
+    head_or_behind other g c = by_place other g c.0 c.1 c.2
 
 -- ---- the index
 

@@ -1,5 +1,7 @@
 //! Which texts of a list another text begins with.
 ghost use Rattle.std.specs.Prelude.{◌≡◌, ◌<◌, ◌≤◌, ◌-◌, ℕ, length, IfOk, MatchOption};
+ghost use Rattle.std.specs.Ordering.{nat_cmp, is_lt};
+ghost use Rattle.std.specs.Cmp.Lexicographic.{slice_cmp};
 ghost use Rattle.std.specs.List.Sorted.{IsPermutation};
 ghost use Rattle.std.specs.Map.{keys_of};
 ghost use Rattle.exports_patterns.specs.Fronts.{StandsAt, IsAscending, IsTop, Covers, LinkedBelow, HasAllLinks};
@@ -50,7 +52,7 @@ impl<V> Fronts<V> {
         ensures { IsTop (keys_of self.now) text.now (length self.now) result }
     {
         let entries = self.entries.as_slice();
-        let from = entries.partition_point(|entry| !(text < entry.0.as_bytes()));
+        let from = entries.partition_point(|entry| !is_below(text, entry.0.as_bytes()));
         climb(entries, self.links.as_slice(), from, text)
     }
 
@@ -113,4 +115,10 @@ fn text_of<V>(entries: &[(Bytes, V)], place: usize) -> &[u8]
     ensures { result.now ≡ text_at (keys_of entries.now) place }
 {
     entries[place].0.as_bytes()
+}
+
+fn is_below(text: &[u8], other: &[u8]) -> bool
+    ensures { result ≡ is_lt (slice_cmp nat_cmp text.now other.now) }
+{
+    text.cmp(&other).is_lt()
 }

@@ -3,8 +3,8 @@ use Rattle.std.specs.List.{list_any}
 use Rattle.ordered_json.specs.Lists.{pairs_of}
 use Rattle.ordered_json.specs.declared.value.Value.{Value}
 use Rattle.node_spec.specs.PackageExportsResolve.{is_dotted}
-use Rattle.node_resolve.proofs.MemberLemmas.{any_key}
-use Rattle.node_resolve.proofs.members.has_dotted.Goals as goal
+use Rattle.package_record.proofs.NameLemmas.{any_key}
+use Rattle.package_record.proofs.subpaths.has_dotted.Goals as goal
 
 pub returns : goal.returns
 returns c =
