@@ -1,9 +1,9 @@
 -- What is found in the index is the choice among the keys.
 use Rattle.std.proofs.Common.{◌≡◌, ◌≢◌, ◌<◌, ◌≤◌, ◌+◌, ◌-◌, ◌++◌, ◌∷◌, ℕ, zero, suc, true, false, List, [], length, take, drop, Some, None, refl, sym, ap, ◌∙◌, subst, arith, length-append, append_assoc}
-use Rattle.std.specs.Prelude.{reverse, slice_get, slice_index_or, IsUtf8}
+use Rattle.std.specs.Prelude.{min, Option, IfSome, MatchOption, reverse, slice_get, slice_index_or, IsUtf8}
 use Rattle.std.specs.List.{Contains}
 use Rattle.std.specs.Map.{keys_of}
-use Rattle.std.proofs.lemmas.List.{append-nil, reverse-append, reverse-reverse, length-reverse, append_cancel_left, take_at}
+use Rattle.std.proofs.lemmas.List.{append-nil, reverse-append, reverse-reverse, length-reverse, length-take, append_cancel_left, take_at}
 use Rattle.std.proofs.lemmas.Bool.{cases_lt}
 use mathlib.Core.Logic.{inl, inr, ◌⊎◌}
 use Rattle.node_spec.specs.Laws.{PartStands}
@@ -99,13 +99,12 @@ module _ (asked base : List ℕ) (group : Group) (room at : ℕ) (back text : Li
         longest = λ other also c p. (let k = reached other also c p in front_length found other (subst (λ t. StartsWith t other) here k.3));
       }
 
-  pub found_within : (found : List ℕ) (place : ℕ) → 0 < at → StandsAt group (at - 1) (found, place) → length found ≤ length asked
-  found_within found place some stands =
-      let here = key_here group (at - 1) (found, place) stands in
-      let l = front_length text found (subst (StartsWith text) here (top.begins some)) in
-      let n : length text ≡ length behind.1 = ap length is_rest ∙ length-reverse behind.1 in
-      let r = rest_length asked base behind.1 behind.0 behind.2 in
-      omega arith
+pub trailer_within : (asked back text found : List ℕ) (room : ℕ) → back ≡ reverse asked → text ≡ take room back → StartsWith text found → length found ≤ length asked
+trailer_within asked back text found room turned is s =
+    let l = front_length text found s in
+    let n : length text ≡ min room (length back) = ap length is ∙ length-take room back in
+    let m : length back ≡ length asked = ap length turned ∙ length-reverse asked in
+    omega arith
 
 -- ---- all groups
 
@@ -337,3 +336,11 @@ module _ (names : List (List ℕ)) (exact : List (List ℕ × ℕ)) (patterns : 
   pattern_span no_key u found best =
       let f = best.fitting in
       subst (HasSpan asked) (sym f.is) (is_span no_key best.base best.group f.back f.at best.place best.stands f.listed f.fits f.longest best.others u)
+
+  pub chosen : NoKey → (found : Option Match) → MatchOption found (IsTried asked patterns 0) (IsBestFitting asked patterns) → MatchOption found (MatchesNone names asked) (IsFound names asked)
+  chosen no_key None tried = matches_none no_key tried
+  chosen no_key (Some found) best = pattern_found no_key found best
+
+  pub spanned : NoKey → IsUtf8 asked → (found : Option Match) → MatchOption found (IsTried asked patterns 0) (IsBestFitting asked patterns) → IfSome found (HasSpan asked)
+  spanned no_key u None tried = tt
+  spanned no_key u (Some found) best = pattern_span no_key u found best

@@ -83,6 +83,10 @@ module _ {X : Type 0} where
   pub key_here : (es : List (List ℕ × X)) (k : ℕ) (e : List ℕ × X) → StandsAt es k e → text_at (keys_of es) k ≡ e.0
   key_here es k e s = get_or-map first es k e [] s.0 ∙ ap first s.1
 
+  pub entry_at : (es : List (List ℕ × X)) (k : ℕ) → k < length es → (e : List ℕ × X) × StandsAt es k e
+  entry_at [] k l = absurd (omega arith)
+  entry_at (e ∷ es) k l = (slice_index_or (e ∷ es) k e, (l, get_or_default (e ∷ es) k (slice_index_or (e ∷ es) k e) e l))
+
   pub one_stands : (es : List (List ℕ × X)) (k : ℕ) (e f : List ℕ × X) → StandsAt es k e → StandsAt es k f → e ≡ f
   one_stands es k e f s t = sym s.1 ∙ (get_or_default es k e f s.0 ∙ t.1)
 
@@ -92,6 +96,9 @@ module _ {X : Type 0} where
       let one : text_at (keys_of (e ∷ es)) j ≡ (slice_index_or (e ∷ es) j e).0 = get_or-map first (e ∷ es) j e [] lt in
       let other : text_at (keys_of (e ∷ es)) i ≡ (slice_index_or (e ∷ es) i e).0 = get_or-map first (e ∷ es) i e [] (omega arith) in
       (λ n. is_lt (slice_cmp nat_cmp (one n) (other n))) ∙ far e
+
+  abbrev pub key_below : List ℕ × X → List ℕ × X → Bool
+  key_below x y = is_lt (slice_cmp nat_cmp x.0 y.0)
 
   pub in_order : (es : List (List ℕ × X)) → IsSortedByKey first (slice_cmp nat_cmp) es → IsAscending (keys_of es)
   in_order es up i j le lt =
@@ -168,11 +175,11 @@ module _ {X : Type 0} where
       ap not (order.chain text (slice_index_or es j d).0 (slice_index_or es i d).0 (not_true _ e) step)
 
   point_covers : (text : List ℕ) (es : List (List ℕ × X)) (i : ℕ) → IsAscending (keys_of es) → i ≤ length es → IsPartitionPoint (λ (y : List ℕ × X). IsBelow text y ≡ true) (λ (y : List ℕ × X). IsBelow text y ≡ false) es i → Covers (keys_of es) text (length es) i
-  point_covers text [] i up within point k l s = absurd (omega arith)
+  point_covers text [] i up within point = λ k l s. absurd (omega arith)
   point_covers text (e ∷ es) i up within point =
       let n = keys_length (e ∷ es) in
       covered_behind (keys_of (e ∷ es)) text (length (e ∷ es)) i up (omega arith) within
-      (λ k l. ap (λ t. is_lt (slice_cmp nat_cmp text t)) (key_of (e ∷ es) k e (omega arith)) ∙ not_true _ (point.0 k e l (omega arith)))
+      (λ k l. ap (λ t. is_lt (slice_cmp nat_cmp text t)) (key_of (e ∷ es) k e (omega arith)) ∙ not_true _ (point.0 k e (omega arith) l))
       (λ k le l. ap (λ t. is_lt (slice_cmp nat_cmp text t)) (key_of (e ∷ es) k e l) ∙ not_false _ (point.1 k e le l))
 
   -- what a search in these entries, which are those of the list, finds

@@ -4,7 +4,7 @@ use Rattle.std.specs.Prelude.{reverse, slice_get, slice_index_or, unwrap_or, byt
 use Rattle.std.specs.Ordering.{nat_cmp}
 use Rattle.std.specs.Cmp.Lexicographic.{slice_cmp, nat_list_cmp_total}
 use Rattle.std.specs.FinMap.{slice_cmp-IsAntisymmetric, nat_cmp-IsAntisymmetric}
-use Rattle.std.specs.BTreeMap.{IsOrdered, is_at}
+use Rattle.std.specs.BTreeMap.{IsOrdered, Updates, is_at}
 use Rattle.std.specs.Map.{lookup}
 use Rattle.std.specs.List.{Contains}
 use Rattle.std.specs.List.Sorted.{IsPermutation}
@@ -12,7 +12,7 @@ use Rattle.std.proofs.lemmas.Bool.{cases_Bool}
 use Rattle.std.proofs.lemmas.List.{reverse-reverse}
 use Rattle.std.proofs.lemmas.List.Elements.{Contains-append_left, Contains-push, Contains-push_cases}
 use Rattle.std.proofs.lemmas.List.Sorted.{Contains-permutation, IsPermutation-sym}
-use Rattle.std.proofs.lemmas.Map.Views.{btree_map_get_iff}
+use Rattle.std.proofs.lemmas.Map.Views.{btree_map_get_iff, tells_apart}
 use Rattle.std.proofs.lemmas.Slice.Eq.{bytes_eq-Decides}
 use mathlib.Core.Logic.{inl, inr, ◌⊎◌, ◌↔◌}
 use Rattle.node_spec.specs.PatternKeys.{HasNoStar}
@@ -128,7 +128,7 @@ module _ (done : List (List ℕ)) (name : List ℕ) (exact : List (List ℕ × �
     was_there : (group : Group) → group_at groups base ≡ Some group → was ≡ group
     was_there group s = ap (λ (o : Option Group). unwrap_or o []) s
 
-    here_part : (place : ℕ) (back : List ℕ) → (reverse trailer, index) ≡ (back, place) → IsPart more base back place
+    here_part : (place : ℕ) (back : List ℕ) → ◌≡◌ {A = List ℕ × ℕ} (reverse trailer, index) (back, place) → IsPart more base back place
     here_part place back e =
         let turned : reverse trailer ≡ back = ap (λ (x : List ℕ × ℕ). x.0) e in
         let same : reverse back ≡ trailer = ap reverse (sym turned) ∙ reverse-reverse trailer in
@@ -190,6 +190,27 @@ module _ (done : List (List ℕ)) (name : List ℕ) (exact : List (List ℕ × �
               | inr apart ↦ (g.0, puts.others other (distinct other apart) ∙ g.1, g.2)
             ]
 
+-- ---- one more pattern among the groups
+
+is_apart : (base other : List ℕ) → other ≢ base → is_at (slice_cmp nat_cmp base) other ≡ false
+is_apart base other apart =
+    elim (cases_Bool (is_at (slice_cmp nat_cmp base) other)) [
+      | inl same ↦ absurd (apart (sym (tells_apart (slice_cmp-IsAntisymmetric nat_cmp-IsAntisymmetric) base other same)))
+      | inr f ↦ f
+    ]
+
+pub puts_there : (groups after : Groups) (base : List ℕ) (entry : List ℕ × ℕ) (before now : Group) → Some before ≡ group_at groups base → now ≡ before ++ entry ∷ [] → Updates (slice_cmp nat_cmp) groups after base (Some now) → PutsPattern base entry groups after
+puts_there groups after base entry before now there is put = record {
+  here = put.1 ∙ ap Some (is ∙ ap (λ (o : Option Group). unwrap_or o [] ++ entry ∷ []) there);
+  others = λ other apart. put.2 other (is_apart base other apart);
+}
+
+pub puts_new : (groups after : Groups) (base : List ℕ) (entry : List ℕ × ℕ) (now : Group) → None ≡ group_at groups base → now ≡ entry ∷ [] → Updates (slice_cmp nat_cmp) groups after base (Some now) → PutsPattern base entry groups after
+puts_new groups after base entry now absent is put = record {
+  here = put.1 ∙ ap Some (is ∙ ap (λ (o : Option Group). unwrap_or o [] ++ entry ∷ []) absent);
+  others = λ other apart. put.2 other (is_apart base other apart);
+}
+
 -- ---- groups in order
 
 pub all_left : (gathered made : List (List ℕ × Group)) → made ≡ [] → HasGrouped gathered gathered made
@@ -213,7 +234,7 @@ next_grouped gathered left rest made after base before group next is moved held 
         | inl still ↦ elim (head_or_behind other g (subst (λ xs. Contains xs (other, g)) next still)) [
           | inl here ↦ (let one : base ≡ other = ap (λ (e : List ℕ × Group). e.0) here in let two : before ≡ g = ap (λ (e : List ℕ × Group). e.1) here in
               inr (group, subst (λ xs. Contains xs (other, group)) (sym is) (subst (λ b. Contains (made ++ (base, group) ∷ []) (b, group)) one (Contains-push made (base, group))), subst (λ h. IsPermutation h group) two moved))
-          | inr more ↦ inl more
+          | inr later ↦ inl later
         ]
         | inr done ↦ inr (done.0, subst (λ xs. Contains xs (other, done.0)) (sym is) (Contains-append_left made ((base, group) ∷ []) (other, done.0) done.1), done.2)
       ];
@@ -225,11 +246,11 @@ next_grouped gathered left rest made after base before group next is moved held 
     first_stands : Contains gathered (base, before)
     first_stands = held.within base before (subst (λ xs. Contains xs (base, before)) (sym next) (0, omega arith, refl))
 
-    by_place : (other : List ℕ) (g : Group) (k : ℕ) → k < length ((base, before) ∷ rest) → slice_index_or ((base, before) ∷ rest) k (other, g) ≡ (other, g) → ((base, before) ≡ (other, g)) ⊎ Contains rest (other, g)
+    by_place : (other : List ℕ) (g : Group) (k : ℕ) → k < length ((base, before) ∷ rest) → slice_index_or ((base, before) ∷ rest) k (other, g) ≡ (other, g) → (◌≡◌ {A = List ℕ × Group} (base, before) (other, g)) ⊎ Contains rest (other, g)
     by_place other g zero l e = inl e
     by_place other g (suc k) l e = inr (k, omega arith, e)
 
-    head_or_behind : (other : List ℕ) (g : Group) → Contains ((base, before) ∷ rest) (other, g) → ((base, before) ≡ (other, g)) ⊎ Contains rest (other, g)
+    head_or_behind : (other : List ℕ) (g : Group) → Contains ((base, before) ∷ rest) (other, g) → (◌≡◌ {A = List ℕ × Group} (base, before) (other, g)) ⊎ Contains rest (other, g)
     head_or_behind other g c = by_place other g c.0 c.1 c.2
 
 -- ---- the index
