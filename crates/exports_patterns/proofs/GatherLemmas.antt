@@ -1,6 +1,6 @@
 -- One more key is gathered, one more group is made, and what is gathered in the end is the index.
 use Rattle.std.proofs.Common.{◌≡◌, ◌≢◌, ◌<◌, ◌≤◌, ◌++◌, ◌∷◌, ℕ, zero, suc, true, false, List, [], length, Option, Some, None, refl, sym, ap, ◌∙◌, subst, arith}
-use Rattle.std.specs.Prelude.{reverse, slice_get, slice_index_or, unwrap_or, bytes_eq, IsUtf8}
+use Rattle.std.specs.Prelude.{Result, Ok, Err, OnOk, reverse, slice_get, slice_index_or, unwrap_or, bytes_eq, IsUtf8}
 use Rattle.std.specs.Ordering.{nat_cmp}
 use Rattle.std.specs.Cmp.Lexicographic.{slice_cmp, nat_list_cmp_total}
 use Rattle.std.specs.FinMap.{slice_cmp-IsAntisymmetric, nat_cmp-IsAntisymmetric}
@@ -210,6 +210,10 @@ puts_new groups after base entry now absent is put = record {
   here = put.1 ∙ ap Some (is ∙ ap (λ (o : Option Group). unwrap_or o [] ++ entry ∷ []) absent);
   others = λ other apart. put.2 other (is_apart base other apart);
 }
+
+pub then_done : {X E A B : Type 0} (result : Result X E) → OnOk result A → (A → B) → OnOk result B
+then_done (Ok x) a f = f a
+then_done (Err e) a f = a
 
 -- ---- groups in order
 
