@@ -4,23 +4,29 @@
 --     MeasureSpends number out out_after before after      the same of the line of a measure
 --     IsTracing command                         the command traces, and generates nothing
 --     further_steps all command                 how many steps come behind the trace
+--     steps_behind trace command                the same of a trace that may be refused
 --     IsUnfaulted result                        neither a fault ended the run nor want of memory
---     TraceSpends words tree result before after      no more steps than the tree's trace has modules and requests, and
---                                               where each module is checked one more for each
+--     TraceSpends words tree result before after      no more steps than the tree's trace asks questions until it ends,
+--                                               one for each module and each request, and where each module is checked
+--                                               one more for each
 --     RunSpends words holds out out_after result before after      no more steps than its line tells, where a command
 --                                               that writes a map is done, or a measure, and the output tells what it
 --                                               took; no more than the trace has, where the tree is told; never more
 --                                               than there may be modules and requests, and where each module is
 --                                               checked once more as many modules; and none where the words ask for no command
 --                                               and no measure
-use Rattle.std.specs.Prelude.{◌≡◌, ◌≢◌, ◌≤◌, ◌+◌, ◌++◌, ⊤, ℕ, List, length, Option, IfSome, Ok, option_map}
+use Rattle.std.specs.Prelude.{◌≡◌, ◌≢◌, ◌≤◌, ◌+◌, ◌++◌, ⊤, ℕ, List, length, Option, Some, IfSome, Result, Ok, Err}
+use Rattle.std.specs.Prelude.{option_map}
 use Rattle.std.specs.FinMap.{get}
 use Rattle.tree_spec.specs.declared.LimitName.TheVariants.{Modules, Requests}
 use Rattle.tree_spec.specs.Limits.{limit_number}
 use Rattle.tree_spec.specs.States.{SinkState}
 use Rattle.tree_spec.specs.Trees.{Tree}
 use Rattle.trace_spec.specs.Checks.{Gathered}
+use Rattle.trace_spec.specs.declared.TraceFault.{TraceFault}
+use Rattle.trace_spec.specs.Laws.{asked_by_end}
 use Rattle.trace_spec.specs.Modules.{Config}
+use Rattle.trace_spec.specs.Questions.{Question}
 use Rattle.trace_spec.specs.Traces.{traced}
 use Rattle.config_spec.specs.declared.Command.{Command}
 use Rattle.config_spec.specs.declared.Command.TheVariants.{Link, Unlink, Refresh, Inject, Check, CheckStrictly, Why}
@@ -72,11 +78,21 @@ further_steps all Lists = 0
 further_steps all Why = 0
 further_steps all Vendor = 0
 
+-- own: behind a refusal nothing is read
+abbrev pub steps_behind : Result Gathered TraceFault → Command → ℕ
+steps_behind (Ok all) command = further_steps all command
+steps_behind (Err refusal) command = 0
+
 abbrev pub IsUnfaulted : ℕ → Type 0
 IsUnfaulted result = (result ≢ read_fault_status) × (result ≢ write_fault_status) × (result ≢ memory_status)
 
--- own: where the tree has a trace, and no fault and no want of memory comes between
+-- own: `to_end` however the run ends, also by a refusal; `few` and `copied` where the tree has a trace, and no fault and
+-- no want of memory comes between
 pub record TraceSpends (words : List (List ℕ)) (tree : Tree) (result before after : ℕ) : Type 0 where
+  pub to_end :
+      (command : Command) (config : Config) (asked : List Question) → IsConfigOf words tree command config
+      → asked_by_end (get tree) config ≡ Some asked
+      → after ≤ before + length asked + steps_behind (traced (get tree) config) command
   pub few :
       (command : Command) (config : Config) (all : Gathered) → IsConfigOf words tree command config → IsTracing command
       → traced (get tree) config ≡ Ok all → IsUnfaulted result
