@@ -156,7 +156,7 @@ def deep_lists(size):
 
 
 def long_target(size):
-    return '{"exports":"./' + "a/" * ((size - 20) // 2) + 'x.mjs"}'
+    return '{"exports":"./' + "a/" * ((size - 22) // 2) + 'x.mjs"}'
 
 
 # ---- pages

@@ -1,6 +1,7 @@
 // What a Node script does for the same job: it lexes each module by es-module-lexer, resolves its specifiers by Node's
-// own resolver, from the entry on, and takes the SHA-384 digest of each module. Where a second word names a file, the
-// map of all that is written there, its mappings without scopes. It ends with 77 where es-module-lexer isn't installed.
+// own resolver, from the entry on, and takes the SHA-384 digest of each module; modules of Node's own are passed over.
+// Where a second word names a file, the map of all that is written there, its mappings without scopes. It ends with 77
+// where es-module-lexer isn't installed.
 import { createHash } from "node:crypto";
 import { readFileSync, writeFileSync } from "node:fs";
 import { pathToFileURL } from "node:url";
@@ -38,7 +39,9 @@ for (const url of seen) {
   for (const { n } of imports) {
     requests += 1;
     const target = import.meta.resolve(n, url);
-    seen.add(target);
+    if (target.startsWith("file:")) {
+      seen.add(target);
+    }
     if (!isRelative(n)) {
       map.imports[n] = target;
     }

@@ -1,8 +1,9 @@
 -- What the calls of a session come to.
-use Rattle.std.proofs.Common.{◌≡◌, ◌++◌, ℕ, List, Option, Some, None, Result, Ok, Err, IfSome, refl, sym, ap, ◌∙◌, subst}
+use Rattle.std.proofs.Common.{◌≡◌, ◌++◌, [], ℕ, List, Option, Some, None, Result, Ok, Err, IfSome, refl, sym, ap, ◌∙◌, subst, arith}
 use Rattle.std.specs.FinMap.{get}
 use Rattle.std.specs.HashMap as map
-use Rattle.std.specs.Prelude.{All, Contains, true, is_some, bytes_eq, ⊤}
+use Rattle.std.specs.Prelude.{◌==◌, ◌∷◌, All, Contains, true, is_some, bytes_eq, length, ⊤}
+use Rattle.std.proofs.lemmas.Bool.Decides.{Decides-eqb}
 use Rattle.std.proofs.lemmas.List.{append_cancel_left}
 use Rattle.std.proofs.lemmas.List.Elements.{All-weaker}
 use Rattle.tree_spec.specs.LookAskings.{Sights, footprint}
@@ -31,25 +32,30 @@ use Rattle.generation.specs.declared.stop.Stop.TheVariants as stop
 use Rattle.session_spec.specs.declared.Change.{Change}
 use Rattle.session_spec.specs.EditLooks.{IsEditLook}
 use Rattle.session_spec.specs.Edits.{edited}
-use Rattle.session_spec.specs.Replies.{IsRefused, by_change, by_generation, fault_line}
+use Rattle.session_spec.specs.Replies.{IsRefused, by_change, by_generation, fault_line, accepted_line}
 use Rattle.session_spec.specs.SessionStates.{SessionState, draft_of, config_with}
 use Rattle.generator_spec.specs.Lines.{line_of}
 use Rattle.edit_session.specs.LooksOn.{LooksOn}
 use Rattle.edit_session.specs.NewLooks.{AsksNew, AsksKept, LooksNew}
-use Rattle.edit_session.specs.SessionTrees.{counts_in, IsSessionOf}
-use Rattle.edit_session.specs.Sessions.{IsOpened, OpensSession, IfRefused, StopsEdit, Accepts, Prepares, Commits}
+use Rattle.edit_session.specs.SessionTrees.{counts_in, IsSessionOf, IsStateThen}
+use Rattle.edit_session.specs.Sessions.{IsOpened, OpensSession, IfRefused, StopsEdit, Accepts, Prepares, BecomesBy, Commits}
 use Rattle.edit_session.specs.Steps.{MakesNext, IsStep}
 use Rattle.edit_session.specs.SessionParts.{Parts, IsPartsOf, parts_of}
 use Rattle.edit_session.specs.declared.session.Pending.{Pending}
+use Rattle.edit_session.specs.declared.session.Prepared.{Prepared}
+use Rattle.edit_session.specs.declared.session.Prepared.TheVariants.{Same, Changed}
 use Rattle.edit_session.specs.declared.session.Session.{Session}
 use Rattle.edit_session.specs.declared.stop.EditStop.{EditStop}
 use Rattle.edit_session.specs.declared.stop.EditStop.TheVariants.{Change as NoChange, Generation, ReadFault, Memory}
 use Rattle.edit_session.proofs.AskedPaths.{asks_as, asks_once_new}
-use Rattle.edit_session.proofs.LookedOn.{some_told, all_told}
+use Rattle.edit_session.proofs.LookedOn.{some_told, all_told, looks_on_nothing}
 use Rattle.edit_session.proofs.MapsTried.{generated_of}
 
 abbrev Done : Type 0
 Done = Result (Unit {0}) EditStop
+
+abbrev all_done : Done
+all_done = Ok tt
 
 -- ---- an edit is prepared
 
@@ -65,6 +71,7 @@ session_by tree old new behind laid config generated state is = record {
     map_is = is.is_state.map_is ∙ sym (ap (λ (g : Generated). g.map.items) generated);
     counts_are = is.is_state.counts_are ∙ sym (ap counts_in generated);
   };
+  current = is.current;
 }
 
 -- the line of an edit that isn't prepared
@@ -174,7 +181,7 @@ module _ (before after : FolderState) (old : Session) (mid : Parts) (edit : List
       nothing_pending = none;
     }
 
-    pub prepared : (pending : Pending) → new.pending ≡ Some pending → MakesNext before (parts_of old) edit (Ok pending) after mid
+    pub prepared : (pending : Pending) → new.pending ≡ Some (Changed pending) → MakesNext before (parts_of old) edit (Ok pending) after mid
         → Prepares before old edit (Ok tt) after new
     prepared pending there is = record {
       config = config ∙ is.same.config;
@@ -190,7 +197,7 @@ module _ (before after : FolderState) (old : Session) (mid : Parts) (edit : List
             next = leads.next;
             line = leads.line;
             is_pending = record {
-              pending = pending;
+              prepared = Changed pending;
               is_there = there;
               is_state = record {
                 laid = leads.is_state.laid;
@@ -200,6 +207,7 @@ module _ (before after : FolderState) (old : Session) (mid : Parts) (edit : List
                 map_is = leads.is_state.map_is;
                 counts_are = leads.is_state.counts_are;
               };
+              current = leads.accepted.current;
             };
             accepted = leads.accepted;
           });
@@ -211,36 +219,102 @@ module _ (before after : FolderState) (old : Session) (mid : Parts) (edit : List
       nothing_pending = tt;
     }
 
+-- ---- an edit without changes
+
+module _ (before : FolderState) (old new : Session) (known : new.known ≡ old.known) (config : new.config ≡ old.config)
+    (generated : new.generated ≡ old.generated) where
+  same_session : (tree : Tree) (state : SessionState) → IsSessionOf tree old state → IsSessionOf tree new state
+  same_session tree state is =
+      session_by tree old new (λ stands. subst (StandsBehind tree) (sym known) stands) (ap (λ (k : Known). k.laid) known)
+      config generated state is
+
+  accepts_same : new.pending ≡ Some Same → (tree : Tree) (state : SessionState) → IsSessionOf tree old state
+      → Accepts tree state [] new
+  accepts_same there tree state is =
+      (let then = same_session tree state is in
+      record {
+        next = state;
+        line = accepted_line state.counts;
+        is_pending = record { prepared = Same; is_there = there; is_state = then.is_state; current = is.current };
+        accepted = record { made = refl; same_project = refl; current = is.current; said = refl };
+      })
+
+  looks_same : (failed unfinished : Type 0) → (failed → ⊥)
+      → LooksNew before old.known before new.known failed unfinished (Asks before before old (parts_of old) [])
+  looks_same failed unfinished fine =
+      subst (λ k. LooksNew before old.known before k failed unfinished (Asks before before old (parts_of old) [])) (sym known)
+      (looks_new before before old (parts_of old) [] old.known failed unfinished failed unfinished (λ e. e) (λ e. e) (λ e. e)
+      (looks_on_nothing before old.known failed unfinished (AsksCleared before before old (parts_of old) []) fine))
+
+  prepared_same : new.pending ≡ Some Same → Prepares before old [] (Ok tt) before new
+  prepared_same there = record {
+    config = config;
+    generated = generated;
+    looks = looks_same (all_done ≡ Err ReadFault) (all_done ≡ Err Memory) (λ e. absurd (cc));
+    accepted = all_told (λ tree. (state : SessionState) → IsSessionOf tree old state → Accepts tree state [] new)
+        before.holds (λ tree e. accepts_same there tree);
+    refused = tt;
+    why = tt;
+    kind = tt;
+    stays = all_told (λ tree. (state : SessionState) → IsSessionOf tree old state → IsSessionOf tree new state)
+        before.holds (λ tree e. same_session tree);
+    pending = ap is_some there;
+    nothing_pending = tt;
+  }
+
+  pub prepared_empty : (edit : List Change) → (length edit == 0) ≡ true → new.pending ≡ Some Same
+      → Prepares before old edit (Ok tt) before new
+  prepared_empty [] none there = prepared_same there
+  prepared_empty (change ∷ edit) none there =
+      (let no : length (change ∷ edit) ≡ 0 = (Decides-eqb (length (change ∷ edit)) 0).0 none in absurd (omega (arith, no)))
+
 -- ---- a step
 
-same_pending : (one other : Pending) (there : Option Pending) → there ≡ Some one → there ≡ Some other → one ≡ other
-same_pending one other there e f = (let same : Some one ≡ Some other = sym e ∙ f in let p : one ≡ other = cc in p)
+same_prepared : (one other : Prepared) (there : Option Prepared) → there ≡ Some one → there ≡ Some other → one ≡ other
+same_prepared one other there e f =
+    (let same : Some one ≡ Some other = sym e ∙ f in let p : one ≡ other = cc in p)
 
-pub committed : (old new : Session) (pending : Pending) → old.pending ≡ Some pending → new.pending ≡ None
+pub committed : (old new : Session) (pending : Pending) → old.pending ≡ Some (Changed pending) → new.pending ≡ None
     → IsStep (parts_of old) pending (parts_of new) → Commits old new
 committed old new pending there none step = record {
   becomes = λ tree state next is is_next.
-      (let same : is_next.pending ≡ pending = same_pending is_next.pending pending old.pending is_next.is_there there in
+      (let same : is_next.prepared ≡ Changed pending =
+      same_prepared is_next.prepared (Changed pending) old.pending is_next.is_there there in
+      let then : IsStateThen tree old (Changed pending) next =
+      subst (λ (p : Prepared). IsStateThen tree old p next) same is_next.is_state in
       record {
         stands = record {
           kept = λ path look e. is.stands.kept path look (sym (ap (λ kept. map.get bytes_eq kept path) step.kept) ∙ e);
         };
         is_state = record {
-          laid = subst (λ over. IsLaid tree over next.tree) (ap (λ (p : Pending). p.over) same ∙ sym step.laid) is_next.is_state.laid;
-          is_tree = is_next.is_state.is_tree;
-          config_is = is_next.is_state.config_is ∙ (ap (λ (p : Pending). config_with old.config p.entries) same ∙ sym step.config);
-          map_is = is_next.is_state.map_is ∙ ap (λ (g : Generated). g.map.items) (ap (λ (p : Pending). p.generated) same ∙ sym step.generated);
-          counts_are = is_next.is_state.counts_are ∙ ap counts_in (ap (λ (p : Pending). p.generated) same ∙ sym step.generated);
+          laid = subst (λ over. IsLaid tree over next.tree) (sym step.laid) then.laid;
+          is_tree = then.is_tree;
+          config_is = then.config_is ∙ sym step.config;
+          map_is = then.map_is ∙ ap (λ (g : Generated). g.map.items) (sym step.generated);
+          counts_are = then.counts_are ∙ ap counts_in (sym step.generated);
         };
+        current = is_next.current;
       });
   steps = λ other e.
-      (let same : pending ≡ other = same_pending pending other old.pending there e in
-      record {
-        laid = step.laid ∙ ap (λ (p : Pending). p.over) same;
-        config = step.config ∙ ap (λ (p : Pending). config_with old.config p.entries) same;
-        generated = step.generated ∙ ap (λ (p : Pending). p.generated) same;
-      });
+      subst (λ (p : Prepared). BecomesBy old p new) (same_prepared (Changed pending) other old.pending there e)
+      (record { laid = step.laid; config = step.config; generated = step.generated });
   kept = λ path. ap (λ kept. map.get bytes_eq kept path) step.kept;
+  nothing_pending = none;
+}
+
+pub committed_same : (old new : Session) → old.pending ≡ Some Same → new.pending ≡ None → new.known ≡ old.known
+    → new.config ≡ old.config → new.generated ≡ old.generated → Commits old new
+committed_same old new there none known config generated = record {
+  becomes = λ tree state next is is_next.
+      (let same : is_next.prepared ≡ Same = same_prepared is_next.prepared Same old.pending is_next.is_there there in
+      let then : IsStateThen tree old Same next =
+      subst (λ (p : Prepared). IsStateThen tree old p next) same is_next.is_state in
+      session_by tree old new (λ stands. subst (StandsBehind tree) (sym known) stands) (ap (λ (k : Known). k.laid) known)
+      config generated next (record { stands = is.stands; is_state = then; current = is_next.current }));
+  steps = λ other e.
+      subst (λ (p : Prepared). BecomesBy old p new) (same_prepared Same other old.pending there e)
+      (record { laid = ap (λ (k : Known). k.laid) known; config = config; generated = generated });
+  kept = λ path. ap (λ (k : Known). kept_at k path) known;
   nothing_pending = none;
 }
 
@@ -321,10 +395,10 @@ module _ (config : Config) (before after : FolderState) (known later : Known)
           map_is = sym (ap (λ (g : Generated). g.map.items) map_is);
           counts_are = sym (ap counts_in map_is);
         };
+        current = generated_of tree config found (in_tree (λ seen. IsMapOfTree seen config found) is.generated tree e);
       };
       tree_is = refl;
       config_is = refl;
-      current = generated_of tree config found (in_tree (λ seen. IsMapOfTree seen config found) is.generated tree e);
     }
 
     pub opened : session.pending ≡ None → PageIsFile config → Made (Ok found)

@@ -5,6 +5,7 @@
 --     pending_steps session                   how many what is pending may have taken
 --     IsStateOf tree over config generated state      the state that these make over a tree
 --     IsSessionOf tree session state          the tree stands behind the session, and this is its state
+--     IsStateThen tree session prepared next  the state that the session has then
 --     IsPendingOf tree session next           this is the state that is pending
 use Rattle.std.specs.Prelude.{◌≡◌, ◌+◌, ℕ, List, Option, Some, None}
 use Rattle.tree_spec.specs.Trees.{Tree, IsTree}
@@ -12,9 +13,10 @@ use Rattle.trace_spec.specs.Modules.{Config}
 use Rattle.package_lookup.specs.declared.over.Over.{Over}
 use Rattle.package_lookup.specs.LaidTrees.{StandsBehind, IsLaid}
 use Rattle.generation.specs.declared.generated.Generated.{Generated}
-use Rattle.session_spec.specs.SessionStates.{Counts, SessionState, config_with}
+use Rattle.session_spec.specs.SessionStates.{Counts, SessionState, config_with, IsCurrent}
 use Rattle.edit_session.specs.declared.session.Counts.{Counts as Told}
-use Rattle.edit_session.specs.declared.session.Pending.{Pending}
+use Rattle.edit_session.specs.declared.session.Prepared.{Prepared}
+use Rattle.edit_session.specs.declared.session.Prepared.TheVariants.{Same, Changed}
 use Rattle.edit_session.specs.declared.session.Session.{Session}
 
 abbrev pub counts_in : Generated → Counts
@@ -34,9 +36,10 @@ shown_counts session = counts_in session.generated
 abbrev pub steps_of : Generated → ℕ
 steps_of generated = generated.modules + generated.requests
 
-abbrev pub steps_in : Option Pending → ℕ
+abbrev pub steps_in : Option Prepared → ℕ
 steps_in None = 0
-steps_in (Some pending) = steps_of pending.generated
+steps_in (Some Same) = 0
+steps_in (Some (Changed pending)) = steps_of pending.generated
 
 abbrev pub pending_steps : Session → ℕ
 pending_steps session = steps_in session.pending
@@ -50,13 +53,21 @@ pub record IsStateOf (tree : Tree) (over : Over) (config : Config) (generated : 
   pub map_is : state.map ≡ generated.map.items
   pub counts_are : state.counts ≡ counts_in generated
 
--- own: each kept look is what stands in the tree
+-- own: each kept look is what stands in the tree, and the map is the one that is generated for the state's tree and
+-- config
 pub record IsSessionOf (tree : Tree) (session : Session) (state : SessionState) : Type 0 where
   pub stands : StandsBehind tree session.known
   pub is_state : IsStateOf tree session.known.laid session.config session.generated state
+  pub current : IsCurrent state
 
 -- own: of the config an edit changes nothing but the entries
+abbrev pub IsStateThen : Tree → Session → Prepared → SessionState → Type 0
+IsStateThen tree session Same next = IsStateOf tree session.known.laid session.config session.generated next
+IsStateThen tree session (Changed pending) next =
+    IsStateOf tree pending.over (config_with session.config pending.entries) pending.generated next
+
 pub record IsPendingOf (tree : Tree) (session : Session) (next : SessionState) : Type 0 where
-  pub pending : Pending
-  pub is_there : session.pending ≡ Some pending
-  pub is_state : IsStateOf tree pending.over (config_with session.config pending.entries) pending.generated next
+  pub prepared : Prepared
+  pub is_there : session.pending ≡ Some prepared
+  pub is_state : IsStateThen tree session prepared next
+  pub current : IsCurrent next

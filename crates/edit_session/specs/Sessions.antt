@@ -27,10 +27,12 @@ use Rattle.session_spec.specs.EditFaults.{CanRefuseEdit}
 use Rattle.session_spec.specs.EditLooks.{IsEditLook}
 use Rattle.session_spec.specs.Edits.{Draft, edited}
 use Rattle.session_spec.specs.Replies.{IsRefused, IsAccepted, fault_line}
-use Rattle.session_spec.specs.SessionStates.{SessionState, draft_of, config_with, IsCurrent}
+use Rattle.session_spec.specs.SessionStates.{SessionState, draft_of, config_with}
 use Rattle.edit_session.specs.NewLooks.{AsksKept, LooksNew}
 use Rattle.edit_session.specs.SessionTrees.{IsSessionOf, IsPendingOf}
 use Rattle.edit_session.specs.declared.session.Pending.{Pending}
+use Rattle.edit_session.specs.declared.session.Prepared.{Prepared}
+use Rattle.edit_session.specs.declared.session.Prepared.TheVariants.{Same, Changed}
 use Rattle.edit_session.specs.declared.session.Session.{Session}
 use Rattle.edit_session.specs.declared.stop.EditStop.{EditStop}
 use Rattle.edit_session.specs.declared.stop.EditStop.TheVariants.{Change as NoChange, Generation, ReadFault, Memory}
@@ -42,7 +44,6 @@ pub record IsOpened (tree : Tree) (config : Config) (session : Session) : Type 0
   pub is_state : IsSessionOf tree session state
   pub tree_is : state.tree ≡ tree
   pub config_is : state.config ≡ config
-  pub current : IsCurrent state
 
 -- own: what would refuse `refresh` refuses a session
 pub record OpensSession (config : Config) (before : FolderState) (result : Result Session Stop)
@@ -127,10 +128,20 @@ pub record StepsTo (old : Session) (pending : Pending) (new : Session) : Type 0 
   pub config : new.config ≡ config_with old.config pending.entries
   pub generated : new.generated ≡ pending.generated
 
+-- own: laid looks, entries, map and counts stay
+pub record StaysAs (old new : Session) : Type 0 where
+  pub laid : new.known.laid ≡ old.known.laid
+  pub config : new.config ≡ old.config
+  pub generated : new.generated ≡ old.generated
+
+abbrev pub BecomesBy : Session → Prepared → Session → Type 0
+BecomesBy old Same new = StaysAs old new
+BecomesBy old (Changed pending) new = StepsTo old pending new
+
 pub record Commits (old new : Session) : Type 0 where
   pub becomes :
       (tree : Tree) (state next : SessionState) → IsSessionOf tree old state → IsPendingOf tree old next
       → IsSessionOf tree new next
-  pub steps : (pending : Pending) → old.pending ≡ Some pending → StepsTo old pending new
+  pub steps : (prepared : Prepared) → old.pending ≡ Some prepared → BecomesBy old prepared new
   pub kept : (path : List ℕ) → kept_at new.known path ≡ kept_at old.known path
   pub nothing_pending : new.pending ≡ None

@@ -35,12 +35,21 @@ pub struct Session {
     known: Known,
     config: Config,
     generated: Generated,
-    pending: Option<Pending>,
+    pending: Option<Prepared>,
     // Looks for the next edit, unless what is pending has them; and the paths at which they may be others than those
     // that are laid.
     spare: Over,
     changed: Vec<Path>,
     ghost agree: { AgreeBut changed.items known.laid (next_over spare pending) },
+}
+
+/// What an edit that is prepared makes of a session.
+#[derive(Drop)]
+pub(crate) enum Prepared {
+    /// Nothing else: it has no changes, so nothing is generated for it.
+    Same,
+    /// Another state.
+    Changed { pending: Pending },
 }
 
 /// What an edit makes of a session: other looks that are laid, other entries, and the map for them.
@@ -54,6 +63,7 @@ pub(crate) struct Pending {
 impl Session {
     ghost use Rattle.edit_session.specs.SessionTrees.{shown_map, shown_counts, counts_told, steps_of, pending_steps};
     ghost use Rattle.edit_session.specs.SessionParts.{pending_over};
+    ghost use Rattle.edit_session.specs.declared.session.Prepared.TheVariants.{Same, Changed};
     ghost use Rattle.edit_session.specs.Sessions.{OpensSession, Prepares, Commits};
 
     /// Opens a session on what stands in the folder.
@@ -84,8 +94,9 @@ impl Session {
         }
     }
 
-    /// Tries the changes of an edit one after another, and generates for what they leave. What comes of it is pending
-    /// then; it takes the place of what was. What is refused leaves the session as it was, with nothing pending.
+    /// Tries the changes of an edit one after another, and generates for what they leave, unless there are none. What
+    /// comes of it is pending then; it takes the place of what was. What is refused leaves the session as it was, with
+    /// nothing pending.
     pub fn prepare<F: Folder, L: Ledger>(
         &mut self,
         alloc: Global,
@@ -97,6 +108,10 @@ impl Session {
         ensures steps { TakesSteps result (λ done. pending_steps self.new) steps.old steps.new }
     {
         let mut looks = self.take_looks(alloc);
+        if edit.is_empty() {
+            self.put_same(looks);
+            return Ok(());
+        }
         match next(alloc, &mut looks, &mut self.config, edit, folder, steps) {
             Err(stop) => {
                 self.put_back(looks);
@@ -125,7 +140,12 @@ impl Session {
                 over: spare,
                 changed,
             },
-            Some(pending) => {
+            Some(Prepared::Same) => Looks {
+                known,
+                over: spare,
+                changed,
+            },
+            Some(Prepared::Changed { pending }) => {
                 let Pending { over, .. } = pending;
                 Looks {
                     known,
@@ -153,11 +173,22 @@ impl Session {
         self.changed = changed;
     }
 
+    fn put_same(&mut self, looks: Looks)
+        requires { self.old.pending ≡ None }
+        ensures known { self.new.known ≡ looks.known }
+        ensures config { self.new.config ≡ self.old.config }
+        ensures generated { self.new.generated ≡ self.old.generated }
+        ensures pending { self.new.pending ≡ Some Same }
+    {
+        self.put_back(looks);
+        self.pending = Some(Prepared::Same);
+    }
+
     fn put_pending(&mut self, looks: Looks, made: Made)
         ensures known { self.new.known ≡ looks.known }
         ensures config { self.new.config ≡ self.old.config }
         ensures generated { self.new.generated ≡ self.old.generated }
-        ensures pending { self.new.pending ≡ Some (pending_over looks.over made) }
+        ensures pending { self.new.pending ≡ Some (Changed (pending_over looks.over made)) }
     {
         let Looks {
             known,
@@ -167,11 +198,12 @@ impl Session {
         let Made { entries, generated } = made;
         self.known = known;
         self.changed = changed;
-        self.pending = Some(Pending {
+        let pending = Pending {
             over,
             entries,
             generated,
-        });
+        };
+        self.pending = Some(Prepared::Changed { pending });
     }
 
     /// Makes what is pending the state of the session.
@@ -179,14 +211,16 @@ impl Session {
         requires { is_some self.old.pending ≡ true }
         ensures { Commits self.old self.new }
     {
-        if let Some(pending) = self.pending.take() {
-            step(
+        match self.pending.take() {
+            None => {}
+            Some(Prepared::Same) => {}
+            Some(Prepared::Changed { pending }) => step(
                 &mut self.known,
                 &mut self.config,
                 &mut self.generated,
                 &mut self.spare,
                 pending,
-            );
+            ),
         }
     }
 

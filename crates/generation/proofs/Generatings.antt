@@ -1,22 +1,22 @@
--- What comes of a trace over what is known of a folder, and of one for which nothing was.
-use Rattle.std.proofs.Common.{◌∙◌, ◌≡◌, ◌≢◌, ℕ, List, [], Bool, true, false, arith, append-nil, Option, Some, None, IfSome, Result, Ok, Err, refl, sym, ap, subst}
+-- What comes of a trace over what is known of a folder, and of one for which nothing was; and what its map is.
+use Rattle.std.proofs.Common.{◌∙◌, ◌≡◌, ◌≢◌, ℕ, List, [], Bool, true, false, append-nil, Option, Some, None, IfSome, Result, Ok, Err, refl, sym, ap, subst}
 use Rattle.std.specs.FinMap.{get}
 use Rattle.std.specs.List.{ends_with}
 use Rattle.std.specs.Prelude.{◌++◌, ⊤, All, Contains, MatchOption, nat_eq, codes}
 use Rattle.std.proofs.lemmas.Bool.{cond-false}
 use Rattle.std.proofs.lemmas.Option.{same_Some}
 use Rattle.std.proofs.lemmas.List.{append_cancel_left}
-use Rattle.std.proofs.lemmas.List.Elements.{All-weaker, All-nil}
+use Rattle.std.proofs.lemmas.List.Elements.{All-weaker}
 use Rattle.std.specs.Option.{option_or}
 use Rattle.tree_spec.specs.LookAskings.{Sights, footprint}
-use Rattle.tree_spec.specs.States.{FolderState, OnlyLooks}
+use Rattle.tree_spec.specs.States.{FolderState}
 use Rattle.tree_spec.specs.Trees.{Tree}
 use Rattle.tree_spec.specs.declared.LimitName.TheVariants.{Map, Choices}
-use Rattle.tree_spec.proofs.ToldStates.{if_some, if_all, looks_as}
+use Rattle.tree_spec.proofs.ToldStates.{if_some, looks_as}
 use Rattle.package_lookup.specs.declared.known.Known.{Known}
 use Rattle.package_lookup.specs.Looked.{kept_at, laid_at, look_or, Sees}
 use Rattle.package_lookup.specs.Learning.{Learns}
-use Rattle.package_lookup.proofs.Learnings.{learns_as, learns_nothing}
+use Rattle.package_lookup.proofs.Learnings.{learns_as}
 use Rattle.trace_spec.specs.declared.TraceFault.{TraceFault}
 use Rattle.trace_spec.specs.declared.TraceFault.TheVariants as fault
 use Rattle.trace_spec.specs.Checks.{Gathered}
@@ -45,6 +45,7 @@ use Rattle.generation.specs.declared.stop.Stop.TheVariants.{Refused, ReadFault, 
 use Rattle.generation.specs.Generating.{StopsAs, IsMapOf, IsMapOfTree, HasLargeMap, AsksNoPathTwice, AsksFootprint, Tracing, Generating}
 use Rattle.generation.specs.Generating.{IfSeen, TracingOver, GeneratingOver}
 use Rattle.generation.specs.Generating.StopsAs.{failed_look, memory, refused}
+use Rattle.generation.specs.Mapping.{MapsTrace}
 use Rattle.generation.specs.Paging.{IsUnserved, IsUnserved as unserved_page, IsUnservedAt, IsUnservedAt as unserved_there}
 use Rattle.generator_spec.specs.declared.Refusal.TheVariants.{Limit, Trace}
 
@@ -135,40 +136,23 @@ module _ (config : Config) (before after : FolderState) (known later : Known) wh
   refused_so ReadFault is = record { generated = tt; refused = tt; kind = tt; learns = learns_same _ _ (λ e. absurd (cc)) is.learns; looks = looks_as before after (λ e. refl) (λ e. refl) is.looks }
   refused_so Memory is = record { generated = tt; refused = tt; kind = tt; learns = learns_same _ _ (λ e. refl) is.learns; looks = looks_as before after (λ e. absurd (cc)) (λ e. absurd (cc)) is.looks }
 
-  module _ (all : Gathered) (is : TracingOver config before known (Ok all) after later) where
-    pub generated : (found : Generated) → IsMapOf config all found → GeneratingOver config before known (Ok found) after later
-    generated found is_map = record {
-      generated = if_some before.holds (λ tree each seen sees. record { all = all; is_traced = each seen sees; is_map = is_map }) is.traces;
-      refused = tt;
-      kind = tt;
-      learns = learns_same _ _ (λ e. absurd (cc)) is.learns;
-      looks = looks_as before after (λ e. absurd (cc)) (λ e. absurd (cc)) is.looks;
-    }
-
-    pub too_wide : (stop : Stop) → stop ≡ Refused (Limit Choices) → HasTooManyChoices all.needs → GeneratingOver config before known (Err stop) after later
-    too_wide stop same many =
-        subst (λ s. GeneratingOver config before known (Err s) after later) (sym same)
-        (record {
-          generated = tt;
-          refused = if_some before.holds (λ tree each seen sees command generating opened. refuses.many_choices command generating opened (record { all = all; is_traced = each seen sees; many = many })) is.traces;
-          kind = λ command generating. kind.many_choices command generating;
-          learns = learns_same _ _ (λ e. absurd (cc)) is.learns;
-          looks = looks_as before after (λ e. absurd (cc)) (λ e. absurd (cc)) is.looks;
-        })
-
-    pub too_large : (stop : Stop) → stop ≡ Refused (Limit Map) → HasLargeMap config all → GeneratingOver config before known (Err stop) after later
-    too_large stop same large =
-        subst (λ s. GeneratingOver config before known (Err s) after later) (sym same)
-        (record {
-          generated = tt;
-          refused = if_some before.holds (λ tree each seen sees command generating opened. refuses.large_map command generating opened (record { all = all; is_traced = each seen sees; few = large.few; layout = large.layout; is_fewest = large.is_fewest; large = large.large })) is.traces;
-          kind = λ command generating. kind.large_map command generating;
-          learns = learns_same _ _ (λ e. absurd (cc)) is.learns;
-          looks = looks_as before after (λ e. absurd (cc)) (λ e. absurd (cc)) is.looks;
-        })
-
-    pub lacks : GeneratingOver config before known (Err Memory) after later
-    lacks = record { generated = tt; refused = tt; kind = tt; learns = learns_same _ _ (λ e. absurd (cc)) is.learns; looks = looks_as before after (λ e. absurd (cc)) (λ e. absurd (cc)) is.looks }
+  pub mapped : (all : Gathered) (result : Result Generated Stop) → TracingOver config before known (Ok all) after later → MapsTrace config all result → GeneratingOver config before known result after later
+  mapped all (Ok found) is map = record {
+    generated = if_some before.holds (λ tree each seen sees. record { all = all; is_traced = each seen sees; is_map = map.map }) is.traces;
+    refused = tt;
+    kind = tt;
+    learns = learns_same _ _ (λ e. absurd (cc)) is.learns;
+    looks = looks_as before after (λ e. absurd (cc)) (λ e. absurd (cc)) is.looks;
+  }
+  mapped all (Err (Refused why)) is map = record {
+    generated = tt;
+    refused = if_some before.holds (λ tree each seen sees. map.refused seen (each seen sees)) is.traces;
+    kind = map.kind;
+    learns = learns_same _ _ (λ e. absurd (cc)) is.learns;
+    looks = looks_as before after (λ e. absurd (cc)) (λ e. absurd (cc)) is.looks;
+  }
+  mapped all (Err ReadFault) is map = absurd (map.no_look refl)
+  mapped all (Err Memory) is map = record { generated = tt; refused = tt; kind = tt; learns = learns_same _ _ (λ e. absurd (cc)) is.learns; looks = looks_as before after (λ e. absurd (cc)) (λ e. absurd (cc)) is.looks }
 
 -- ---- where nothing was known
 
@@ -213,23 +197,45 @@ unserved_kind config lost = record { which = the_page; path_is = sym (page_shown
 unserved_traced : (tree : Tree) (config : Config) → served_at config the_page ≡ None → traced (get tree) config ≡ Err (fault.Unservable config.page (web_name config the_page))
 unserved_traced tree config lost = unserved_is_refused (get tree) config lost ∙ ap (λ path. Err (fault.Unservable path (web_name config the_page))) (page_shown config)
 
-module _ (config : Config) (state : FolderState) (known : Known) where
-  nothing_looked : {P : Type 0} → (P → ⊥) → OnlyLooks state state P
-  nothing_looked none = record { tree = refl; writes = refl; later = omega arith; cause = λ p. absurd (none p); quiet = λ quiet. refl }
+-- ---- the map of a trace
 
-  pub unserved : (stop : Stop) → IsUnserved config stop → GeneratingOver config state known (Err stop) state known
-  unserved stop (unserved_page.refused lost same) =
-      subst (λ s. GeneratingOver config state known (Err s) state known) (sym same)
+module _ (config : Config) (all : Gathered) where
+  pub is_map : (found : Generated) → IsMapOf config all found → MapsTrace config all (Ok found)
+  is_map found is = record { map = is; refused = tt; kind = tt; no_look = λ e. absurd (cc) }
+
+  pub too_wide : (stop : Stop) → stop ≡ Refused (Limit Choices) → HasTooManyChoices all.needs → MapsTrace config all (Err stop)
+  too_wide stop same many =
+      subst (λ s. MapsTrace config all (Err s)) (sym same)
       (record {
-        generated = tt;
-        refused = if_all state.holds (λ tree seen sees command generating opened. refuses.trace command (fault.Unservable config.page (web_name config the_page)) opened (unserved_traced seen config lost));
-        kind = λ command generating. kind.trace command (fault.Unservable config.page (web_name config the_page)) (unserved_kind config lost);
-        learns = learns_nothing (known_of state known) _ _;
-        looks = nothing_looked (λ e. absurd (cc));
+        map = tt;
+        refused = λ tree traced command generating opened. refuses.many_choices command generating opened (record { all = all; is_traced = traced; many = many });
+        kind = λ command generating. kind.many_choices command generating;
+        no_look = λ e. absurd (cc);
       })
-  unserved stop (unserved_page.memory same) =
-      subst (λ s. GeneratingOver config state known (Err s) state known) (sym same)
-      (record { generated = tt; refused = tt; kind = tt; learns = learns_nothing (known_of state known) _ _; looks = nothing_looked (λ e. absurd (cc)) })
+
+  pub too_large : (stop : Stop) → stop ≡ Refused (Limit Map) → HasLargeMap config all → MapsTrace config all (Err stop)
+  too_large stop same large =
+      subst (λ s. MapsTrace config all (Err s)) (sym same)
+      (record {
+        map = tt;
+        refused = λ tree traced command generating opened. refuses.large_map command generating opened (record { all = all; is_traced = traced; few = large.few; layout = large.layout; is_fewest = large.is_fewest; large = large.large });
+        kind = λ command generating. kind.large_map command generating;
+        no_look = λ e. absurd (cc);
+      })
+
+  lacks : MapsTrace config all (Err Memory)
+  lacks = record { map = tt; refused = tt; kind = tt; no_look = λ e. absurd (cc) }
+
+  pub unserved : (stop : Stop) → IsUnserved config stop → MapsTrace config all (Err stop)
+  unserved stop (unserved_page.refused lost same) =
+      subst (λ s. MapsTrace config all (Err s)) (sym same)
+      (record {
+        map = tt;
+        refused = λ tree traced command generating opened. refuses.trace command (fault.Unservable config.page (web_name config the_page)) opened (unserved_traced tree config lost);
+        kind = λ command generating. kind.trace command (fault.Unservable config.page (web_name config the_page)) (unserved_kind config lost);
+        no_look = λ e. absurd (cc);
+      })
+  unserved stop (unserved_page.memory same) = subst (λ s. MapsTrace config all (Err s)) (sym same) lacks
 
 -- the page's web name, where it is served at it
 pub page_is_file : (config : Config) (url : List ℕ) → web config.base config.page [] ≡ Some url → ends_with nat_eq url (codes "/") ≡ false → PageIsFile config

@@ -1,3 +1,4 @@
 pub mod Generating
+pub mod Mapping
 pub mod Paging
 pub mod Digesting

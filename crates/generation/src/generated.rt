@@ -6,8 +6,11 @@ ghost use Rattle.request_trace.specs.Tracing.{TakesSteps};
 ghost use Rattle.generator_spec.specs.Generation.{PageIsFile};
 ghost use Rattle.trace_spec.specs.Modules.{web_name};
 ghost use Rattle.trace_spec.specs.Walking.{the_page};
+ghost use Rattle.generation.specs.Digesting.{HasEach};
 ghost use Rattle.generation.specs.Generating.{Generating, GeneratingOver, IsMapOf, HasLargeMap, generated_of};
+ghost use Rattle.generation.specs.Mapping.{MapsTrace};
 
+use crate::digester::{ComputedDigests, Digester};
 use crate::digests::digests;
 use crate::page::page_url;
 use crate::stop::{Stop, too_large, too_many_choices};
@@ -33,7 +36,7 @@ pub struct Generated {
     pub mappings: usize,
 }
 
-// Why a trace has no map.
+// Why a trace has no map at its page's URL.
 enum MapFault {
     TooManyChoices,
     MapTooLarge,
@@ -91,32 +94,31 @@ pub fn generate_traced<F: Folder, L: Ledger>(
         found.1.footprint) }
     ensures steps { TakesSteps result (λ found. found.0.modules + found.0.requests) steps.old steps.new }
 {
-    match page_url(alloc, config) {
+    match traced_over(alloc, folder, known, config, steps) {
         Err(stop) => Err(stop),
-        Ok(page) => generated_from(alloc, folder, known, config, &page, steps),
+        Ok(trace) => match map_of(alloc, config, &trace, &ComputedDigests {}) {
+            Err(stop) => Err(stop),
+            Ok(generated) => Ok((generated, trace)),
+        },
     }
 }
 
-// The same, where the page is served at this URL.
-fn generated_from<F: Folder, L: Ledger>(
+/// The map of a trace, with its counts, or why there is none, whatever made the trace and whatever keeps the digests of
+/// its modules. Nothing is looked at.
+pub fn map_of<D: Digester>(
     alloc: Global,
-    folder: &mut F,
-    known: &mut Known,
     config: &Config,
-    page: &WebUrl,
-    steps: &mut Steps<L>,
-) -> Result<(Generated, Trace), Stop>
-    requires { web_name config.now the_page ≡ Some page.now }
-    ensures generates { GeneratingOver config.now (F.state folder.old) known.old (generated_of result)
-        (F.state folder.new) known.new }
-    ensures footprint { IfOk result (λ found. IsFootprint config.now (F.state folder.old) known.old known.new
-        found.1.footprint) }
-    ensures steps { TakesSteps result (λ found. found.0.modules + found.0.requests) steps.old steps.new }
+    trace: &Trace,
+    digester: &D,
+) -> Result<Generated, Stop>
+    requires { HasEach (D.has digester.now) trace.now.gathered.sources }
+    ensures maps { MapsTrace config.now trace.now.gathered result }
+    ensures page { IfOk result (λ found. PageIsFile config.now) }
 {
-    match traced_over(alloc, folder, known, config, steps) {
+    match page_url(alloc, config) {
         Err(stop) => Err(stop),
-        Ok(trace) => match map_of(alloc, config, page, &trace) {
-            Ok(generated) => Ok((generated, trace)),
+        Ok(page) => match map_at(alloc, config, &page, trace, digester) {
+            Ok(generated) => Ok(generated),
             Err(MapFault::TooManyChoices) => Err(too_many_choices()),
             Err(MapFault::MapTooLarge) => Err(too_large()),
             Err(MapFault::Memory) => Err(Stop::Memory),
@@ -124,20 +126,22 @@ fn generated_from<F: Folder, L: Ledger>(
     }
 }
 
-// The map of a trace, with its counts.
-fn map_of(
+// The same, where the page is served at this URL.
+fn map_at<D: Digester>(
     alloc: Global,
     config: &Config,
     page: &WebUrl,
     trace: &Trace,
+    digester: &D,
 ) -> Result<Generated, MapFault>
-    requires { web_name config.now the_page ≡ Some page.now }
+    requires page { web_name config.now the_page ≡ Some page.now }
+    requires has { HasEach (D.has digester.now) trace.now.gathered.sources }
     ensures map { IfOk result (IsMapOf config.now trace.now.gathered) }
     ensures many { result ≡ Err MapFault.TooManyChoices → HasTooManyChoices trace.now.gathered.needs }
     ensures too_large { result ≡ Err MapFault.MapTooLarge → HasLargeMap config.now trace.now.gathered }
 {
     match layout(alloc, trace.needs()) {
-        Ok(layout) => match printed(alloc, config, page, trace, &layout) {
+        Ok(layout) => match printed(alloc, config, page, trace, &layout, digester) {
             Ok(generated) => Ok(generated),
             Err(PrintFault::MapTooLarge) => Err(MapFault::MapTooLarge),
             Err(PrintFault::Memory) => Err(MapFault::Memory),
@@ -148,20 +152,22 @@ fn map_of(
 }
 
 // The same, where this is the layout of its needs.
-fn printed(
+fn printed<D: Digester>(
     alloc: Global,
     config: &Config,
     page: &WebUrl,
     trace: &Trace,
     layout: &Layout,
+    digester: &D,
 ) -> Result<Generated, PrintFault>
     requires page { web_name config.now the_page ≡ Some page.now }
     requires fewest { FewestLists trace.now.gathered.needs layout.now }
     requires few { HasTooManyChoices trace.now.gathered.needs → ⊥ }
+    requires has { HasEach (D.has digester.now) trace.now.gathered.sources }
     ensures map { IfOk result (IsMapOf config.now trace.now.gathered) }
     ensures too_large { result ≡ Err PrintFault.MapTooLarge → HasLargeMap config.now trace.now.gathered }
 {
-    let digests = digests(alloc, config, trace)?;
+    let digests = digests(alloc, config, trace, digester)?;
     let map = print_map(alloc, layout, &digests, page)?;
     let Some(mappings) = mappings(layout) else {
         return Err(PrintFault::Memory);

@@ -2,7 +2,7 @@
 use Rattle.std.proofs.Common.{◌≡◌, ◌≢◌, ◌≤◌, ℕ, suc, Bool, true, false, List, [], ◌∷◌, length, Option, Some, None, Ok, Err, IfSome, Result, refl, sym, ap, ◌∙◌, subst, inl, arith}
 use Rattle.std.specs.FinMap.{get}
 use Rattle.std.specs.Prelude.{◌++◌, map as each, slice_get, All, Contains, unwrap_or, if◌then◌else◌}
-use Rattle.std.proofs.lemmas.List.Elements.{All-nil, All-cons, All-append}
+use Rattle.std.proofs.lemmas.List.Elements.{All-nil, All-cons}
 use Rattle.std.proofs.lemmas.List.{append-nil, length-map}
 use Rattle.tree_spec.specs.declared.Look.{Look}
 use Rattle.tree_spec.specs.declared.Look.TheVariants as look
@@ -18,7 +18,7 @@ use Rattle.import_map_spec.specs.Resolving.{Resolved}
 use Rattle.check_spec.proofs.DifferenceLemmas.{differences_are_exact}
 use Rattle.check_spec.specs.Differences.{Difference, gets, is_url, differences, differences_from}
 use Rattle.grammar_spec.specs.declared.answer.Strict.{Strict}
-use Rattle.grammar_spec.specs.declared.answer.Strict.TheVariants.{Agrees, Syntax, Differs, TooDeep}
+use Rattle.grammar_spec.specs.declared.answer.Strict.TheVariants.{TooDeep}
 use Rattle.layout_spec.proofs.Contained.{contains_here, contains_there}
 use Rattle.layout_spec.specs.declared.Need.{Need}
 use Rattle.trace_spec.specs.declared.TraceFault.TheVariants.{Unservable}
@@ -35,7 +35,7 @@ use Rattle.config_spec.specs.declared.Command.TheVariants.{CheckStrictly}
 use Rattle.generator_spec.specs.declared.MapFileFault.{MapFileFault}
 use Rattle.generator_spec.specs.declared.MapFileFault.TheVariants as map_fault
 use Rattle.generator_spec.specs.declared.Refusal.TheVariants.{MapFile, NestedTooDeep}
-use Rattle.generator_spec.specs.Checking.{no_need, need_at, spelling_at, difference_line, difference_lines, SaysOfModules, SaysOfModules as of_modules, strict_line, strict_lines, check_lines}
+use Rattle.generator_spec.specs.Checking.{no_need, need_at, spelling_at, difference_line, difference_lines, SaysOfModules, SaysOfModules as of_modules, AreLined, AreLined as lined_as, check_lines}
 use Rattle.generator_spec.specs.Commands.{map_path, map_file_limit, map_file_fault, IsMapText, ReadsMap, HoldsMap, RefusesMapFile, RefusesMapFile as refuses_map}
 use Rattle.generator_spec.specs.Commands.{IsChecking, IsChecking as checking, Opens as opens, Refuses, Refuses as refuses, IsRefusalOf as kind}
 use Rattle.config_spec.specs.Projects.{IsConfigOf}
@@ -297,21 +297,17 @@ few_differ map all = subst (λ n. n ≤ length all.needs) (sym (length-map (diff
 
 -- ---- the lines of the modules
 
-is_strict_line : (name : List ℕ) (answer : Strict) → All IsStrictLine (strict_line name answer)
-is_strict_line name Agrees = All-nil IsStrictLine
-is_strict_line name (Syntax at) = All-cons IsStrictLine _ [] (lined.by_syntax name at refl) (All-nil IsStrictLine)
-is_strict_line name (Differs found outline) = All-cons IsStrictLine _ [] (lined.by_requests name refl) (All-nil IsStrictLine)
-is_strict_line name TooDeep = All-nil IsStrictLine
-
-are_strict_lines : (modules : List Module) (answers : List Strict) → All IsStrictLine (strict_lines modules answers)
-are_strict_lines [] answers = All-nil IsStrictLine
-are_strict_lines (m ∷ modules) [] = All-nil IsStrictLine
-are_strict_lines (m ∷ modules) (answer ∷ answers) =
-    All-append IsStrictLine (strict_line (m.path ++ m.suffix) answer) (strict_lines modules answers) (is_strict_line (m.path ++ m.suffix) answer) (are_strict_lines modules answers)
+are_strict_lines : (modules : List Module) (answers : List Strict) (lines : List (List ℕ)) → AreLined modules answers lines → All IsStrictLine lines
+are_strict_lines modules answers lines lined_as.none = All-nil IsStrictLine
+are_strict_lines _ _ _ (lined_as.agrees {modules = modules} {answers} {lines} are) = are_strict_lines modules answers lines are
+are_strict_lines _ _ _ (lined_as.syntax {m} {modules} {answers} {lines} at are) =
+    All-cons IsStrictLine _ lines (lined.by_syntax (m.path ++ m.suffix) at refl) (are_strict_lines modules answers lines are)
+are_strict_lines _ _ _ (lined_as.differs {m} {modules} {answers} {lines} found outline are) =
+    All-cons IsStrictLine _ lines (lined.by_requests (m.path ++ m.suffix) refl) (are_strict_lines modules answers lines are)
 
 strict_shape : (all : Gathered) (command : Command) (strict : List (List ℕ)) → SaysOfModules all command strict → length strict ≤ limit_number Modules → AreStrictLines command strict
 strict_shape all command strict of_modules.unasked few = are.unasked
-strict_shape all command strict (of_modules.strictly answers said none) few = are.strictly (strict_lines all.modules answers) few (are_strict_lines all.modules answers)
+strict_shape all command strict (of_modules.strictly answers lines said lined_so) few = are.strictly lines few (are_strict_lines all.modules answers lines lined_so)
 
 module _ (words : List (List ℕ)) (command : Command) (config : Config) (before after : FolderState) (out out_after : SinkState) (result : ℕ) (report : Report) (is_config : IsConfigAt words command config before) (is : IsReported command config before after report) where
   abbrev differing : List (List ℕ)

@@ -1,5 +1,6 @@
 pub mod Preparings
 pub mod Endings
+pub mod StepsByTrace
 pub mod Strictnesses
 pub mod Checkings
 pub mod ReportLemmas

@@ -44,6 +44,7 @@ few_asked (asks.link more) = few_linked more
 few_asked (asks.unlink entry entries are) = tt
 few_asked asks.refresh = tt
 few_asked asks.check = tt
+few_asked asks.check_strictly = tt
 few_asked asks.list = tt
 few_asked asks.inject = tt
 few_asked asks.session = tt

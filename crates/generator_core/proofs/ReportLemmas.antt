@@ -1,8 +1,8 @@
 -- What a check says, line by line.
-use Rattle.std.proofs.Common.{◌≡◌, ◌≤◌, ◌⊎◌, ℕ, ◌+◌, true, false, inl, inr, List, [], ◌∷◌, ◌++◌, length, Result, Ok, Err, refl, sym, ap, ◌∙◌, append_assoc, subst, arith}
+use Rattle.std.proofs.Common.{◌≡◌, ◌≤◌, ℕ, ◌+◌, true, false, List, [], ◌∷◌, ◌++◌, length, Result, Ok, Err, refl, sym, ap, ◌∙◌, append_assoc, subst, arith}
 use Rattle.std.specs.Prelude.{map as each, drop, slice_get, Some}
 use Rattle.std.specs.List.{concat}
-use Rattle.std.proofs.lemmas.List.{append-nil, length-append}
+use Rattle.std.proofs.lemmas.List.{append-nil}
 use Rattle.std.proofs.lemmas.List.Folds.{concat-append}
 use Rattle.shared_types.proofs.ListSteps.{drop_at}
 use Rattle.tree_spec.specs.declared.LimitName.TheVariants.{Modules}
@@ -12,17 +12,16 @@ use Rattle.check_spec.specs.Differences.{differences}
 use Rattle.trace_spec.specs.Checks.{Gathered}
 use Rattle.config_spec.specs.declared.Command.{Command}
 use Rattle.generator_spec.proofs.Endings.{one_line_text}
-use Rattle.generator_spec.specs.Checking.{difference_line, difference_lines, SaysOfModules as of_modules, strict_line, strict_lines}
+use Rattle.generator_spec.specs.Checking.{difference_line, difference_lines, SaysOfModules as of_modules, AreLined, AreLined as lined_as}
 use Rattle.generator_spec.specs.Lines.{served_line, differences_line}
 use Rattle.grammar_spec.specs.declared.answer.Strict.{Strict}
-use Rattle.grammar_spec.specs.declared.answer.Strict.TheVariants.{Agrees, Syntax, Differs, TooDeep}
 use Rattle.trace_spec.specs.Modules.{Module}
 use Rattle.map_check.specs.declared.difference.Difference.{Difference}
 use Rattle.map_check.specs.Shown.{shown}
 use Rattle.generation.specs.declared.stop.Stop.{Stop}
 use Rattle.generation.specs.declared.stop.Stop.TheVariants.{Memory}
 use Rattle.generator_core.specs.declared.checking.Report.{Report}
-use Rattle.generator_core.specs.Strictness.{AreLined, IsStrictStop, IsStrictStop as strict_stop}
+use Rattle.generator_core.specs.Strictness.{StandBehind, IsStrictStop, IsStrictStop as strict_stop}
 use Rattle.generator_core.specs.Checking.{AsksGrammar, AsksGrammar as asks, IsReportOf, IsTold, IsToldStrictly, IsReportStop, IsReportStop as report_stop, Reports}
 
 abbrev pub lines_of : Gathered → List Difference → List (List ℕ)
@@ -74,27 +73,18 @@ some_differences needs (line ∷ more) report some s t =
 
 -- ---- with the lines of the modules
 
-lines_few : (name : List ℕ) (answer : Strict) → (length (strict_line name answer) ≡ 0) ⊎ (length (strict_line name answer) ≡ 1)
-lines_few name Agrees = inl refl
-lines_few name (Syntax at) = inr refl
-lines_few name (Differs found outline) = inr refl
-lines_few name TooDeep = inl refl
-
 -- no more lines than modules
-strict_few : (modules : List Module) (answers : List Strict) → length (strict_lines modules answers) ≤ length modules
-strict_few [] answers = omega arith
-strict_few (m ∷ modules) [] = omega arith
-strict_few (m ∷ modules) (answer ∷ answers) =
-    let own : List (List ℕ) = strict_line (m.path ++ m.suffix) answer in
-    let both = length-append own (strict_lines modules answers) in
-    let more = strict_few modules answers in
-    elim (lines_few (m.path ++ m.suffix) answer) [
-      | inl none ↦ omega (arith, both, more, none)
-      | inr one ↦ omega (arith, both, more, one)
-    ]
+strict_few : (modules : List Module) (answers : List Strict) (lines : List (List ℕ)) → AreLined modules answers lines → length lines ≤ length modules
+strict_few modules answers lines lined_as.none = omega arith
+strict_few _ _ _ (lined_as.agrees {modules = modules} {answers} {lines} are) =
+    let few = strict_few modules answers lines are in omega (arith, few)
+strict_few _ _ _ (lined_as.syntax {modules = modules} {answers} {lines} at are) =
+    let few = strict_few modules answers lines are in omega (arith, few)
+strict_few _ _ _ (lined_as.differs {modules = modules} {answers} {lines} found outline are) =
+    let few = strict_few modules answers lines are in omega (arith, few)
 
 -- the lines of the modules stand behind those of the needs, and all is said
-pub told_strictly : (all : Gathered) (lines new : List (List ℕ)) (result : Result Report Stop) → AreLined all lines new → length all.modules ≤ limit_number Modules → IsTold (length all.needs) new result → IsToldStrictly all lines result
+pub told_strictly : (all : Gathered) (lines new : List (List ℕ)) (result : Result Report Stop) → StandBehind all lines new → length all.modules ≤ limit_number Modules → IsTold (length all.needs) new result → IsToldStrictly all lines result
 told_strictly all lines new (Ok report) lined few told = record { told = record { new = new; lined = lined; is = told.told }; stopped = tt; few = few }
 told_strictly all lines new (Err stop) lined few told = record { told = tt; stopped = subst (IsStrictStop all) (sym told.stopped) strict_stop.memory; few = few }
 
@@ -118,14 +108,14 @@ pub reports_strictly : (map : ParsedMap) (all : Gathered) (lines : List (List �
     → (command : Command) → AsksGrammar command true → Reports command map all result
 reports_strictly map all lines (Ok report) same told _ asks.strictly =
     let lined = told.told.lined in
-    let few = strict_few all.modules lined.answers in
+    let few = strict_few all.modules lined.answers lined.lines lined.lined in
     let bound = told.few in
     record {
       reported = record {
-        strict = strict_lines all.modules lined.answers;
-        says = of_modules.strictly lined.answers lined.said lined.none;
+        strict = lined.lines;
+        says = of_modules.strictly lined.answers lined.lines lined.said lined.lined;
         few = omega (arith, few, bound);
-        is = subst (λ ls. IsReportOf (length all.needs) ls report) (lined.lines ∙ ap (λ ls. ls ++ strict_lines all.modules lined.answers) same) told.told.is;
+        is = subst (λ ls. IsReportOf (length all.needs) ls report) (lined.is ∙ ap (λ ls. ls ++ lined.lines) same) told.told.is;
       };
       stopped = tt;
     }

@@ -3,8 +3,7 @@ use Rattle.std.proofs.Common.{◌≡◌, ◌≢◌, ◌≤◌, ◌+◌, ◌||◌
 use Rattle.std.specs.List.{list_any}
 use Rattle.std.specs.Prelude.{slice_get, OnOk}
 use Rattle.std.proofs.Math.Seq.{take-length}
-use Rattle.std.proofs.lemmas.List.{append-nil, length-take-le}
-use Rattle.std.proofs.lemmas.List.Folds.{list_any-append}
+use Rattle.std.proofs.lemmas.List.{append-nil}
 use Rattle.grammar_spec.specs.declared.answer.Strict.{Strict}
 use Rattle.module_spec.proofs.OutlineLaws.{one_outline}
 use Rattle.module_spec.specs.declared.request.ModuleFault.TheVariants as module_fault
@@ -19,12 +18,12 @@ use Rattle.trace_spec.specs.Checks.{Gathered}
 use Rattle.trace_spec.specs.Modules.{Module}
 use Rattle.trace_spec.specs.Questions.{Source}
 use Rattle.generator_spec.proofs.Strictnesses.{one_said}
-use Rattle.generator_spec.specs.Checking.{strict_line, strict_lines}
+use Rattle.generator_spec.specs.Checking.{AreLined, AreLined as lined}
 use Rattle.generator_spec.specs.Strictness.{IsSaid, AreSaid, AreSaid as said, is_nested, IsNested}
 use Rattle.generator_spec.specs.declared.Refusal.TheVariants.{NestedTooDeep}
 use Rattle.generation.specs.declared.stop.Stop.TheVariants.{Refused, Memory}
 use Rattle.generation.specs.declared.stop.Stop.{Stop}
-use Rattle.generator_core.specs.Strictness.{FindsAnswer, IsSaidAt, IsLineOf, IsModuleLined, IsStrictStop as strict_stop, PushesModule, AreLined}
+use Rattle.generator_core.specs.Strictness.{FindsAnswer, IsSaidAt, IsLineOf, IsModuleLined, IsStrictStop as strict_stop, PushesModule, StandBehind, own_lines}
 
 -- ---- a module that is nested too deep
 
@@ -58,29 +57,34 @@ said_more [] (some ∷ answers) source answer are is = elim are [ ]
 said_more (first ∷ sources) [] source answer are is = elim are [ ]
 said_more (first ∷ sources) (some ∷ answers) source answer (said.one_more here are) is = said.one_more here (said_more sources answers source answer are is)
 
-lines_more :
-    (modules : List Module) (sources : List Source) (answers : List Strict) (m : Module) (answer : Strict)
-    → length modules ≡ length sources → AreSaid sources answers
-    → strict_lines (modules ++ m ∷ []) (answers ++ answer ∷ []) ≡ strict_lines modules answers ++ strict_line (m.path ++ m.suffix) answer
-lines_more [] [] [] m answer same said.none = append-nil (strict_line (m.path ++ m.suffix) answer)
-lines_more [] [] (some ∷ answers) m answer same are = elim are [ ]
-lines_more (first ∷ modules) (source ∷ sources) [] m answer same are = elim are [ ]
-lines_more [] (source ∷ sources) answers m answer same are = absurd (omega (arith, same))
-lines_more (first ∷ modules) [] answers m answer same are = absurd (omega (arith, same))
-lines_more (first ∷ modules) (source ∷ sources) (some ∷ answers) m answer same (said.one_more is are) =
-    let own : List (List ℕ) = strict_line (first.path ++ first.suffix) some in
-    ap (λ rest. own ++ rest) (lines_more modules sources answers m answer (omega (arith, same)) are)
-    ∙ sym (append_assoc own (strict_lines modules answers) (strict_line (m.path ++ m.suffix) answer))
+one_lined : (m : Module) (answer : Strict) → is_nested answer ≡ false → AreLined (m ∷ []) (answer ∷ []) (own_lines (m.path ++ m.suffix) answer)
+one_lined m Agrees shallow = lined.agrees lined.none
+one_lined m (Syntax at) shallow = lined.syntax at lined.none
+one_lined m (Differs found outline) shallow = lined.differs found outline lined.none
+one_lined m TooDeep shallow = absurd (true≢false shallow)
+
+lined_more :
+    (modules : List Module) (answers : List Strict) (lines : List (List ℕ)) (m : Module) (answer : Strict)
+    → is_nested answer ≡ false → AreLined modules answers lines
+    → AreLined (modules ++ m ∷ []) (answers ++ answer ∷ []) (lines ++ own_lines (m.path ++ m.suffix) answer)
+lined_more modules answers lines m answer shallow lined.none = one_lined m answer shallow
+lined_more _ _ _ m answer shallow (lined.agrees {modules = modules} {answers} {lines} are) =
+    lined.agrees (lined_more modules answers lines m answer shallow are)
+lined_more _ _ _ m answer shallow (lined.syntax {modules = modules} {answers} {lines} at are) =
+    lined.syntax at (lined_more modules answers lines m answer shallow are)
+lined_more _ _ _ m answer shallow (lined.differs {modules = modules} {answers} {lines} found outline are) =
+    lined.differs found outline (lined_more modules answers lines m answer shallow are)
 
 -- what is there behind the first modules
 pub record AreLinedUpTo (all : Gathered) (place : ℕ) (old new : List (List ℕ)) : Type 0 where
   pub answers : List Strict
   pub said : AreSaid (take place all.sources) answers
-  pub shallow : list_any is_nested answers ≡ false
-  pub lines : new ≡ old ++ strict_lines (take place all.modules) answers
+  pub lines : List (List ℕ)
+  pub lined : AreLined (take place all.modules) answers lines
+  pub is : new ≡ old ++ lines
 
 pub no_modules : (all : Gathered) (old : List (List ℕ)) → AreLinedUpTo all 0 old old
-no_modules all old = record { answers = []; said = said.none; shallow = refl; lines = sym (append-nil old) }
+no_modules all old = record { answers = []; said = said.none; lines = []; lined = lined.none; is = sym (append-nil old) }
 
 some_at : {A : Type 0} (xs : List A) (place : ℕ) → suc place ≤ length xs → (x : A) × (slice_get xs place ≡ Some x)
 some_at [] place below = absurd (omega (arith, below))
@@ -96,18 +100,13 @@ next_answer all place old middle new answer same below up is shallow line =
     let source = some_at all.sources place (omega (arith, same, below)) in
     let modules = take_more all.modules place m.0 m.1 in
     let sources = take_more all.sources place source.0 source.1 in
-    let first = length-take-le place all.modules (omega (arith, below)) in
-    let second = length-take-le place all.sources (omega (arith, same, below)) in
+    let own : List (List ℕ) = own_lines (m.0.path ++ m.0.suffix) answer in
     record {
       answers = up.answers ++ answer ∷ [];
       said = subst (λ ss. AreSaid ss (up.answers ++ answer ∷ [])) (sym sources) (said_more (take place all.sources) up.answers source.0 answer up.said (is source.0 source.1));
-      shallow = list_any-append is_nested up.answers (answer ∷ []) ∙ ap (λ b. b || (is_nested answer || false)) up.shallow ∙ ap (λ b. b || false) shallow;
-      lines =
-          line m.0 m.1
-          ∙ (ap (λ text. text ++ strict_line (m.0.path ++ m.0.suffix) answer) up.lines
-          ∙ (append_assoc old (strict_lines (take place all.modules) up.answers) (strict_line (m.0.path ++ m.0.suffix) answer)
-          ∙ ap (λ text. old ++ text) (sym (ap (λ ms. strict_lines ms (up.answers ++ answer ∷ [])) modules
-          ∙ lines_more (take place all.modules) (take place all.sources) up.answers m.0 answer (first ∙ sym second) up.said))));
+      lines = up.lines ++ own;
+      lined = subst (λ ms. AreLined ms (up.answers ++ answer ∷ []) (up.lines ++ own)) (sym modules) (lined_more (take place all.modules) up.answers up.lines m.0 answer shallow up.lined);
+      is = line m.0 m.1 ∙ (ap (λ text. text ++ own) up.is ∙ append_assoc old up.lines own);
     }
 
 pub next_module :
@@ -119,15 +118,16 @@ next_module all place old middle new result same below up pushes is =
     let next : suc place ≡ place + 1 = omega arith in
     subst (λ n. AreLinedUpTo all n old new) next (next_answer all place old middle new pushed.answer same below up pushed.said pushed.shallow pushed.line)
 
-pub all_lined : (all : Gathered) (place : ℕ) (old new : List (List ℕ)) → length all.modules ≡ length all.sources → place ≡ length all.modules → AreLinedUpTo all place old new → AreLined all old new
+pub all_lined : (all : Gathered) (place : ℕ) (old new : List (List ℕ)) → length all.modules ≡ length all.sources → place ≡ length all.modules → AreLinedUpTo all place old new → StandBehind all old new
 all_lined all place old new same at up =
     let modules : take place all.modules ≡ all.modules = ap (λ n. take n all.modules) at ∙ take-length all.modules in
     let sources : take place all.sources ≡ all.sources = ap (λ n. take n all.sources) (at ∙ same) ∙ take-length all.sources in
     record {
       answers = up.answers;
       said = subst (λ ss. AreSaid ss up.answers) sources up.said;
-      none = λ deep. true≢false (sym deep ∙ up.shallow);
-      lines = up.lines ∙ ap (λ ms. old ++ strict_lines ms up.answers) modules;
+      lines = up.lines;
+      lined = subst (λ ms. AreLined ms up.answers up.lines) modules up.lined;
+      is = up.is;
     }
 
 -- ---- what is said of one module

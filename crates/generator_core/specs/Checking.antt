@@ -33,7 +33,7 @@ use Rattle.generation.specs.Generating.{AsksNoPathTwice, AsksFootprint}
 use Rattle.generator_core.specs.declared.checking.Report.{Report}
 use Rattle.generator_spec.specs.Asked.{AsksOwn, AsksFew}
 use Rattle.generator_core.specs.Preparing.{EndsBefore}
-use Rattle.generator_core.specs.Strictness.{AreLined, IsStrictStop}
+use Rattle.generator_core.specs.Strictness.{StandBehind, IsStrictStop}
 
 -- ---- the map's file
 
@@ -94,7 +94,7 @@ pub record IsTold (needs : ℕ) (lines : List (List ℕ)) (result : Result Repor
 -- behind these lines come those of the modules
 pub record IsLined (all : Gathered) (lines : List (List ℕ)) (report : Report) : Type 0 where
   pub new : List (List ℕ)
-  pub lined : AreLined all lines new
+  pub lined : StandBehind all lines new
   pub is : IsReportOf (length all.needs) new report
 
 pub record IsToldStrictly (all : Gathered) (lines : List (List ℕ)) (result : Result Report Stop) : Type 0 where

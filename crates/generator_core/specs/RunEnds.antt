@@ -22,7 +22,7 @@ pub record CommandEnds (words : List (List ℕ)) (before after : FolderState) (o
     (result spent spent_after : ℕ) : Type 0 where
   pub end : EndsAs words before after out out_after result
   pub asked : IfSome before.asked (λ old. AsksInOrder words before old after)
-  pub steps : RunSpends words out out_after result spent spent_after
+  pub steps : RunSpends words before.holds out out_after result spent spent_after
 
 -- own: words ask for a session or they don't
 pub record RunEnds (words : List (List ℕ)) (before after : FolderState) (source later : SourceState)

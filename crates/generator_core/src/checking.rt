@@ -1,6 +1,6 @@
 //! What a command says of the map that is there, or why it says nothing.
 
-ghost use Rattle.std.specs.Prelude.{◌≡◌, ◌≤◌, ◌+◌, ◌++◌, [], ◌∷◌, length, map, IfOk, OnOk, IfSome};
+ghost use Rattle.std.specs.Prelude.{◌≡◌, ◌≤◌, ◌+◌, ◌++◌, [], ◌∷◌, length, map, IfOk, IfErr, OnOk, IfSome};
 ghost use Rattle.std.specs.List.{concat};
 ghost use Rattle.tree_spec.specs.declared.LimitName.TheVariants.{Modules, Requests};
 ghost use Rattle.tree_spec.specs.Limits.{limit_number};
@@ -14,7 +14,8 @@ ghost use Rattle.generator_spec.specs.Commands as spec_files;
 ghost use Rattle.generator_spec.specs.Commands.{HoldsMap};
 ghost use Rattle.generator_core.specs.Checking.{AsksGrammar, Checks, ChecksBy, FindsMapText, FindsMap, IsNameless};
 ghost use Rattle.generator_core.specs.Checking.{IsReportOf, IsTold, IsToldStrictly, Reports};
-ghost use Rattle.generator_core.specs.Strictness.{further_steps};
+ghost use Rattle.generator_core.specs.Spending.{FitsTrace, IsRefusal};
+ghost use Rattle.generator_core.specs.Strictness.{further_steps, module_steps};
 
 use crate::paths::map_path;
 use crate::strictness::push_strict;
@@ -52,6 +53,8 @@ pub fn checked<F: Folder, L: Ledger>(
         → Checks command config.now (F.state folder.old) result (F.state folder.new) }
     ensures bounded { steps.new
         ≤ steps.old + (limit_number Modules + limit_number Requests) + further_steps strictly }
+    ensures by_trace { FitsTrace (IfErr result IsRefusal) config.now (F.state folder.old).holds
+        (module_steps strictly) steps.old steps.new }
 {
     match map_text(alloc, folder) {
         Err(stop) => Err(stop),
@@ -153,6 +156,8 @@ fn checked_by<F: Folder, L: Ledger>(
         → ChecksBy command config.now (F.state folder.old) result (F.state folder.new) }
     ensures bounded { steps.new
         ≤ steps.old + (limit_number Modules + limit_number Requests) + further_steps strictly }
+    ensures by_trace { FitsTrace (IfErr result IsRefusal) config.now (F.state folder.old).holds
+        (module_steps strictly) steps.old steps.new }
 {
     match traced(alloc, folder, config, steps) {
         Err(stop) => Err(stop),
@@ -171,6 +176,7 @@ fn report_of<L: Ledger>(
     ensures reports { (command : Command) → AsksGrammar command strictly
         → Reports command parsed.now trace.now.gathered result }
     ensures cost { steps.new ≤ steps.old + further_steps strictly }
+    ensures counted { steps.new ≤ steps.old + module_steps strictly trace.now.gathered }
 {
     match differing(alloc, trace, parsed) {
         Err(_) => Err(Stop::Memory),
@@ -193,6 +199,7 @@ fn reported_strictly<L: Ledger>(
 ) -> Result<Report, Stop>
     ensures reports { IsToldStrictly trace.now.gathered lines result }
     ensures cost { steps.new ≤ steps.old + limit_number Modules }
+    ensures counted { steps.new ≤ steps.old + length trace.now.gathered.modules }
 {
     match push_strict(alloc, &mut lines, trace, steps) {
         Err(stop) => Err(stop),

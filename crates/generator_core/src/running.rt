@@ -17,7 +17,7 @@ ghost use Rattle.generator_spec.specs.Lines.{vendored_line as copies_line};
 ghost use Rattle.tree_vendor.specs.Copying.{AreKept};
 ghost use Rattle.generator_core.specs.Running.{RunsCommand};
 ghost use Rattle.generator_core.specs.Checking.{AsksGrammar};
-ghost use Rattle.generator_core.specs.Spending.{CommandSpends, OrderSpends};
+ghost use Rattle.generator_core.specs.Spending.{CommandSpends, FitsWords, OrderSpends};
 ghost use Rattle.generator_core.specs.Writing.{TellsStop, TellsWords, EndsWriting, WritesFiles};
 
 use crate::checking::checked;
@@ -111,6 +111,8 @@ fn explain<F: Folder, O: Sink, L: Ledger>(
     ensures asked { IfSome (F.state folder.old).asked (λ old. (words : List (List ℕ)) → AsksWhyAt words path.now
         → AsksInOrder words (F.state folder.old) old (F.state folder.new)) }
     ensures steps { CommandSpends (IsGenerating Why) (O.state out.old) (O.state out.new) result steps.old steps.new }
+    ensures by_trace { (words : List (List ℕ)) → AsksWhyAt words path.now
+        → FitsWords words (F.state folder.old).holds result steps.old steps.new }
 {
     match configured(alloc, folder, Order::Refresh) {
         Ok(config) => tell_why(alloc, folder, &config, path, out, steps),
@@ -132,6 +134,8 @@ fn vendor<F: Folder, O: Sink, L: Ledger>(
     ensures asked { IfSome (F.state folder.old).asked (λ old. (words : List (List ℕ)) → VendorsAt words to.now
         → AsksInOrder words (F.state folder.old) old (F.state folder.new)) }
     ensures steps { CommandSpends (SaysCounts Vendor) (O.state out.old) (O.state out.new) result steps.old steps.new }
+    ensures by_trace { (words : List (List ℕ)) → VendorsAt words to.now
+        → FitsWords words (F.state folder.old).holds result steps.old steps.new }
 {
     match configured(alloc, folder, Order::Refresh) {
         Ok(config) => tell_copies(alloc, folder, &config, to, out, steps),
@@ -153,6 +157,8 @@ fn ordered<F: Folder, O: Sink, L: Ledger>(
         → AsksInOrder words (F.state folder.old) old (F.state folder.new)) }
     ensures steps { OrderSpends (command_ordered order.entry) (O.state out.old) (O.state out.new) result steps.old
         steps.new }
+    ensures by_trace { (words : List (List ℕ)) → IsOrder words order.entry
+        → FitsWords words (F.state folder.old).holds result steps.old steps.new }
 {
     let command = order.command();
     match configured(alloc, folder, order) {

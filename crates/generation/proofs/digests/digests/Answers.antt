@@ -4,7 +4,7 @@ use Rattle.generation.specs.Digesting.{kept_texts}
 use Rattle.generation.proofs.digests.digests.Goals as goal
 
 pub loop-place-preserved : goal.loop-place-preserved
-loop-place-preserved c =
+loop-place-preserved g c =
     let within : c.loop-place.place ≤ length c.args.trace.now.gathered.modules = c.loop-place.invariant.0 in
     let some = c.loop-place-test.true in
     let is : c.loop-place.place ≡ suc (c.loop-place.place - 1) = omega (arith, some) in (
@@ -14,6 +14,6 @@ loop-place-preserved c =
     )
 
 pub returns : goal.returns
-returns c =
+returns g c =
     let none = c.loop-place-test.false in
     all_digests c.args.config.now c.args.trace.now.gathered.modules c.args.trace.now.gathered.sources c.loop-place.place c.loop-place.kept c.from_map.result (omega (arith, none)) c.loop-place.invariant.1 c.from_map.ensures.entries c.from_map.ensures.in_order

@@ -1,6 +1,6 @@
 use Rattle.std.proofs.Common.{subst, arith}
 use Rattle.std.specs.Prelude.{OnOk}
-use Rattle.generator_core.specs.Strictness.{AreLined, PushesStrict}
+use Rattle.generator_core.specs.Strictness.{PushesStrict, StandBehind}
 use Rattle.generator_core.proofs.ReportLemmas.{told_strictly}
 use Rattle.generator_core.proofs.checking.reported_strictly.Goals as goal
 
@@ -23,5 +23,5 @@ pub returns-clause-reports : goal.returns-clause-reports
 returns-clause-reports g c =
     let all = c.args.trace.now.gathered in
     told_strictly all c.args.lines c.push_strict.new.lines c.reported.result
-    (subst (λ r. OnOk r (AreLined all c.args.lines c.push_strict.new.lines)) c.in-Ok.is c.push_strict.ensures.pushes.pushed)
+    (subst (λ r. OnOk r (StandBehind all c.args.lines c.push_strict.new.lines)) c.in-Ok.is c.push_strict.ensures.pushes.pushed)
     c.push_strict.ensures.few c.reported.ensures

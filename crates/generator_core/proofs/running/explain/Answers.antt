@@ -1,4 +1,4 @@
-use Rattle.std.proofs.Common.{rules, subst}
+use Rattle.std.proofs.Common.{rules, refl, subst}
 use Rattle.config_spec.specs.declared.Command.TheVariants.{Refresh, Why}
 use Rattle.generator_spec.specs.Asked.{AsksInOrder}
 use Rattle.generator_spec.specs.Commands.{IsGenerating}
@@ -8,6 +8,7 @@ use Rattle.generator_core.proofs.Endings.{config_stop_end, ends_from, stop_spend
 use Rattle.generator_core.proofs.Explainings.{explains_no_project, explains_project, why_command}
 use Rattle.generator_core.proofs.HeldSessions.{refreshes}
 use Rattle.generator_core.proofs.Runs.{config_asks, config_still, for_all_words, project_asks}
+use Rattle.generator_core.proofs.StepsByTrace.{fits_earlier, order_fits, unspent_words}
 use Rattle.generator_core.proofs.running.explain.Goals as goal
 
 pub returns-in-Ok-clause-end : goal.returns-in-Ok-clause-end
@@ -55,3 +56,17 @@ returns-in-Err-clause-asked g c =
 
 pub returns-in-Err-clause-steps : goal.returns-in-Err-clause-steps
 returns-in-Err-clause-steps g c = stop_spends (IsGenerating Why) c.in-Err.stop _ _ _ _ _ c.close.ensures.tells (search rules)
+
+pub returns-in-Ok-clause-by_trace : goal.returns-in-Ok-clause-by_trace
+returns-in-Ok-clause-by_trace g c =
+    λ words is.
+    let before = g.F.Folder.state c.args.folder.now in
+    let middle = g.F.Folder.state c.configured.new.folder in
+    let at =
+    explains_project words c.args.path.now is before middle c.in-Ok.config
+    (subst (λ r. FindsConfig refresh_words Refresh before r middle) c.in-Ok.is (c.configured.ensures refresh_words refreshes)) in
+    order_fits words c.in-Ok.config before _ _ _ Why (λ same. absurd (cc)) at.found.is
+    (fits_earlier c.in-Ok.config before middle _ _ _ Why Why refl at.found.looks.tree c.tell_why.ensures.by_trace)
+
+pub returns-in-Err-clause-by_trace : goal.returns-in-Err-clause-by_trace
+returns-in-Err-clause-by_trace g c = λ words is. unspent_words words (g.F.Folder.state c.args.folder.now).holds _ _

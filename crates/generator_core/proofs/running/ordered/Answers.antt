@@ -5,6 +5,7 @@ use Rattle.generator_spec.specs.Asked.{AsksInOrder, IsConfigAt}
 use Rattle.generator_core.specs.Configuring.{FindsConfig}
 use Rattle.generator_core.proofs.Endings.{config_stop_end, ends_from, order_spends, stop_spends}
 use Rattle.generator_core.proofs.Runs.{command_is, config_asks, config_still, for_all_words, not_vendor, not_why, project_asks}
+use Rattle.generator_core.proofs.StepsByTrace.{fits_earlier, order_fits, unspent_words}
 use Rattle.generator_core.proofs.running.ordered.Goals as goal
 
 pub commanded-requires-clause-explains : goal.commanded-requires-clause-explains
@@ -59,3 +60,15 @@ returns-in-Err-clause-asked g c =
 
 pub returns-in-Err-clause-steps : goal.returns-in-Err-clause-steps
 returns-in-Err-clause-steps g c = order_spends (command_ordered c.args.order) _ _ _ _ _ (stop_spends (IsGenerating (command_ordered c.args.order)) c.in-Err.stop _ _ _ _ _ c.close.ensures.tells (search rules))
+
+pub returns-in-Ok-clause-by_trace : goal.returns-in-Ok-clause-by_trace
+returns-in-Ok-clause-by_trace g c =
+    λ words is.
+    let before = g.F.Folder.state c.args.folder.now in
+    let middle = g.F.Folder.state c.configured.new.folder in
+    let at = subst (λ r. FindsConfig words (command_ordered c.args.order) before r middle) c.in-Ok.is (c.configured.ensures words is) in
+    order_fits words c.in-Ok.config before _ _ _ (command_ordered c.args.order) (not_vendor c.args.order) at.found.is
+    (fits_earlier c.in-Ok.config before middle _ _ _ (command_ordered c.args.order) c.command-command.result c.command-command.ensures at.found.looks.tree c.commanded.ensures.by_trace)
+
+pub returns-in-Err-clause-by_trace : goal.returns-in-Err-clause-by_trace
+returns-in-Err-clause-by_trace g c = λ words is. unspent_words words (g.F.Folder.state c.args.folder.now).holds _ _

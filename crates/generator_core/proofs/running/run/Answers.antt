@@ -16,6 +16,7 @@ use Rattle.generator_core.proofs.CopiesTold.{vendor_command}
 use Rattle.generator_core.proofs.HeldSessions.{unread_ends}
 use Rattle.generator_core.proofs.Measurings.{few_packages}
 use Rattle.generator_core.proofs.Runs.{command_is, words_not_done, asks_nothing_in_order}
+use Rattle.generator_core.proofs.StepsByTrace.{measure_fits, unspent_words}
 use Rattle.generator_core.proofs.running.run.Goals as goal
 
 -- no more steps than those are no more than with one a module more
@@ -34,6 +35,7 @@ returns-in-Ok-Order-clause-ends g c =
         steps = record {
           told = λ command is_too counts zero. c.ordered.ensures.steps.told (subst IsGenerating ((words_are_judged words).one_command command (command_ordered c.in-Ok-Order.order) is_too commanded) (counts_generate command counts)) zero;
           measured = λ number asks zero. absurd ((words_are_judged words).no_command number (command_ordered c.in-Ok-Order.order) asks commanded);
+          by_trace = c.ordered.ensures.by_trace words is;
           bounded = λ other. c.ordered.ensures.steps.bounded (λ same. other (subst (IsCommandOf words) same commanded));
           strictly = c.ordered.ensures.steps.strictly;
           unspent = λ none no_measure. absurd (none _ commanded);
@@ -60,6 +62,7 @@ returns-in-Ok-Why-clause-ends g c =
         steps = record {
           told = λ command is_too counts zero. absurd (subst SaysCounts ((words_are_judged words).one_command command Why is_too commanded) counts);
           measured = λ number asks zero. absurd ((words_are_judged words).no_command number Why asks commanded);
+          by_trace = c.explain.ensures.by_trace words is;
           bounded = λ other. c.explain.ensures.steps.bounded;
           strictly = more_steps _ _ c.explain.ensures.steps.bounded;
           unspent = λ none no_measure. absurd (none Why commanded);
@@ -92,6 +95,7 @@ returns-in-Ok-Vendor-clause-ends g c =
         steps = record {
           told = λ command is_too counts zero. absurd (subst SaysCounts ((words_are_judged words).one_command command Vendor is_too commanded) counts);
           measured = λ number asks zero. absurd ((words_are_judged words).no_command number Vendor asks commanded);
+          by_trace = c.vendor.ensures.by_trace words is;
           bounded = λ other. c.vendor.ensures.steps.bounded;
           strictly = more_steps _ _ c.vendor.ensures.steps.bounded;
           unspent = λ none no_measure. absurd (none Vendor commanded);
@@ -122,6 +126,7 @@ returns-in-Ok-Measure-clause-ends g c =
         steps = record {
           told = λ command is generating zero. absurd ((words_are_judged words).no_command c.in-Ok-Measure.number command asks is);
           measured = λ number asks_too zero. subst (λ n. MeasureSpends n (g.O.Sink.state c.args.out.now) (g.O.Sink.state c.measure.new.out) c.args.steps.now c.measure.new.steps) ((words_are_judged words).one_measure c.in-Ok-Measure.number number asks asks_too) (c.measure.ensures.told zero);
+          by_trace = measure_fits words c.in-Ok-Measure.number (g.F.Folder.state c.args.folder.now).holds _ _ _ asks;
           bounded = λ other. c.measure.ensures.bounded;
           strictly = more_steps _ _ c.measure.ensures.bounded;
           unspent = λ none no_measure. absurd (no_measure c.in-Ok-Measure.number asks);
@@ -157,6 +162,7 @@ returns-in-Err-clause-ends g c =
         steps = record {
           told = λ command is generating zero. absurd (words_not_done c.in-Err.fault _ _ _ c.misworded.ensures.tells zero);
           measured = λ number asks zero. absurd (words_not_done c.in-Err.fault _ _ _ c.misworded.ensures.tells zero);
+          by_trace = unspent_words words folder.holds _ _;
           bounded = λ other. search rules;
           strictly = search rules;
           unspent = λ none no_measure. refl;

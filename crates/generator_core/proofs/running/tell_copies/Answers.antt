@@ -1,6 +1,9 @@
-use Rattle.std.proofs.Common.{subst}
+use Rattle.std.proofs.Common.{subst, sym}
+use Rattle.std.specs.Prelude.{IfErr}
 use Rattle.generator_core.specs.Vendoring.{PreparesCopies}
 use Rattle.generator_core.proofs.CopiesTold.{copies_end, copies_stop, still_asked}
+use Rattle.generator_core.proofs.Endings.{stop_not_done}
+use Rattle.generator_core.proofs.StepsByTrace.{weaker_fits}
 use Rattle.generator_core.proofs.running.tell_copies.Goals as goal
 
 pub prepare_copies-requires : goal.prepare_copies-requires
@@ -20,6 +23,8 @@ returns-in-Ok g c =
       asked = still_asked c.args.to.now c.args.config.now (g.F.Folder.state c.args.folder.now) (g.F.Folder.state c.prepare_copies.new.folder)
           (g.F.Folder.state c.finish_copies.new.folder) c.finish_copies.ensures.asked is.asked;
       spends = record { told = λ none. absurd none; bounded = c.prepare_copies.ensures.bounded };
+      by_trace = weaker_fits _ _ c.args.config.now (g.F.Folder.state c.args.folder.now).holds (λ all. 0) _ _
+          (λ zero. subst (λ r. IfErr r (λ stop. ⊥)) (sym c.in-Ok.is) tt) c.prepare_copies.ensures.by_trace;
     }
 
 pub returns-in-Err : goal.returns-in-Err
@@ -30,4 +35,6 @@ returns-in-Err g c =
       end = λ words asks is_config. copies_stop words c.args.to.now c.args.config.now _ (g.F.Folder.state c.args.folder.now) _ _ _ _ asks is_config c.in-Err.stop is.stopped c.close.ensures.tells c.close.ensures.later;
       asked = is.asked;
       spends = record { told = λ none. absurd none; bounded = c.prepare_copies.ensures.bounded };
+      by_trace = weaker_fits _ _ c.args.config.now (g.F.Folder.state c.args.folder.now).holds (λ all. 0) _ _
+          (λ zero. absurd (stop_not_done c.in-Err.stop _ _ _ c.close.ensures.tells zero)) c.prepare_copies.ensures.by_trace;
     }

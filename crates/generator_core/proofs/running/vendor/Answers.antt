@@ -8,6 +8,7 @@ use Rattle.generator_core.proofs.Endings.{config_stop_end, ends_from, stop_spend
 use Rattle.generator_core.proofs.CopiesTold.{copies_ask, vendors_no_project, vendors_project, vendor_command}
 use Rattle.generator_core.proofs.HeldSessions.{refreshes}
 use Rattle.generator_core.proofs.Runs.{config_still, for_all_words, project_asks}
+use Rattle.generator_core.proofs.StepsByTrace.{copies_earlier, copies_fit, unspent_words}
 use Rattle.generator_core.proofs.running.vendor.Goals as goal
 
 pub tell_copies-requires : goal.tell_copies-requires
@@ -58,3 +59,17 @@ returns-in-Err-clause-asked g c =
 
 pub returns-in-Err-clause-steps : goal.returns-in-Err-clause-steps
 returns-in-Err-clause-steps g c = stop_spends (SaysCounts Vendor) c.in-Err.stop _ _ _ _ _ c.close.ensures.tells (search rules)
+
+pub returns-in-Ok-clause-by_trace : goal.returns-in-Ok-clause-by_trace
+returns-in-Ok-clause-by_trace g c =
+    λ words is.
+    let before = g.F.Folder.state c.args.folder.now in
+    let middle = g.F.Folder.state c.configured.new.folder in
+    let at =
+    vendors_project words c.args.to.now is before middle c.in-Ok.config
+    (subst (λ r. FindsConfig refresh_words Refresh before r middle) c.in-Ok.is (c.configured.ensures refresh_words refreshes)) in
+    copies_fit words c.in-Ok.config before _ _ _ at.found.is
+    (copies_earlier c.in-Ok.config before middle _ _ _ at.found.looks.tree c.tell_copies.ensures.by_trace)
+
+pub returns-in-Err-clause-by_trace : goal.returns-in-Err-clause-by_trace
+returns-in-Err-clause-by_trace g c = λ words is. unspent_words words (g.F.Folder.state c.args.folder.now).holds _ _

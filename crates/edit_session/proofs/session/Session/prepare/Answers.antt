@@ -1,7 +1,14 @@
-use Rattle.std.proofs.Common.{◌∙◌}
+use Rattle.std.proofs.Common.{◌∙◌, sym}
 use Rattle.edit_session.specs.SessionParts.{parts, pending_over}
-use Rattle.edit_session.proofs.SessionCalls.{not_prepared, prepared}
+use Rattle.edit_session.proofs.SessionCalls.{not_prepared, prepared, prepared_empty}
 use Rattle.edit_session.proofs.session.Session.prepare.Goals as goal
+
+pub returns-then-is_empty-clause-prepares : goal.returns-then-is_empty-clause-prepares
+returns-then-is_empty-clause-prepares g c =
+    prepared_empty (g.F.Folder.state c.args.folder.now) c.args.self.now c.put_same.new.self
+    (c.put_same.ensures.known ∙ c.take_looks-looks.ensures.known) (c.put_same.ensures.config ∙ c.take_looks-looks.ensures.config)
+    (c.put_same.ensures.generated ∙ c.take_looks-looks.ensures.generated) c.args.edit.now
+    (sym c.is_empty.ensures ∙ c.if-is_empty.true) c.put_same.ensures.pending
 
 pub returns-in-Err-clause-prepares : goal.returns-in-Err-clause-prepares
 returns-in-Err-clause-prepares g c =
