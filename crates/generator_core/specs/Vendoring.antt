@@ -137,4 +137,4 @@ pub record RunsVendor (to : List ℕ) (config : Config) (before after : FolderSt
       → EndsAs words before after out out_after result
   pub asked : IfSome before.asked (λ old. AsksCopies to config before old after)
   pub spends : CommandSpends (SaysCounts Vendor) out out_after result steps later
-  pub by_trace : FitsTrace (result ≡ done_status) config before.holds (λ all. 0) steps later
+  pub by_trace : FitsTrace Vendor config before.holds steps later
