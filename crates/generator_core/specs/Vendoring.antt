@@ -34,7 +34,6 @@ use Rattle.generator_spec.specs.Asked.{AsksFew, HasMap, IsConfigAt}
 use Rattle.generator_spec.specs.Commands.{IsRefusalOf, NewFile, new_file, Refuses, SaysCounts}
 use Rattle.generator_spec.specs.CopiedMaps.{generation_paths}
 use Rattle.generator_spec.specs.Ending.{Ends, EndsAs}
-use Rattle.generator_spec.specs.Statuses.{done_status}
 use Rattle.generator_spec.specs.Generation.{Generates}
 use Rattle.generator_spec.specs.Vendoring.{copied_files, IsCopyRefusal, RefusesCopies}
 use Rattle.generation.specs.Generating.{IfRefused}

@@ -1,9 +1,8 @@
-use Rattle.std.proofs.Common.{Result, ◌+◌, refl, subst, sym}
+use Rattle.std.proofs.Common.{Result, refl, subst, sym}
 use Rattle.std.specs.Prelude.{IfOk}
 use Rattle.tree_vendor.specs.Planning.{Plans}
 use Rattle.request_trace.specs.Footprints.{IsFootprint}
 use Rattle.request_trace.specs.Showing.{Traced}
-use Rattle.request_trace.specs.Tracing.{TakesSteps}
 use Rattle.generation.specs.declared.generated.Generated.{Generated}
 use Rattle.generation.specs.declared.stop.Stop.{Stop}
 use Rattle.generation.specs.Generating.{GeneratingOver, generated_of}
