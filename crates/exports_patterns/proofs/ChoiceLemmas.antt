@@ -1,5 +1,5 @@
 -- What is found in the index is the choice among the keys.
-use Rattle.std.proofs.Common.{◌≡◌, ◌≢◌, ◌<◌, ◌≤◌, ◌+◌, ◌-◌, ◌++◌, ◌∷◌, ℕ, zero, suc, true, false, List, [], length, take, drop, Some, None, refl, sym, ap, ◌∙◌, subst, arith, length-append, append_assoc}
+use Rattle.std.proofs.Common.{◌≡◌, ◌≢◌, ◌<◌, ◌≤◌, ◌+◌, ◌-◌, ◌++◌, ◌∷◌, ℕ, zero, suc, true, false, List, [], length, take, Some, None, refl, sym, ap, ◌∙◌, subst, arith, length-append, append_assoc}
 use Rattle.std.specs.Prelude.{min, Option, IfSome, MatchOption, reverse, slice_get, slice_index_or, IsUtf8}
 use Rattle.std.specs.List.{Contains}
 use Rattle.std.specs.Map.{keys_of}
@@ -7,17 +7,17 @@ use Rattle.std.proofs.lemmas.List.{append-nil, reverse-append, reverse-reverse, 
 use Rattle.std.proofs.lemmas.Bool.{cases_lt}
 use mathlib.Core.Logic.{inl, inr, ◌⊎◌}
 use Rattle.node_spec.specs.Laws.{PartStands}
-use Rattle.node_spec.specs.PatternKeys.{HasNoStar, IsPattern, KeyMatch, Itself, PatternMatch, Matches, MatchesNone, Precedes, IsChoice, StartsWith}
+use Rattle.node_spec.specs.PatternKeys.{HasNoStar, IsPattern, KeyMatch, Matches, MatchesNone, Precedes, StartsWith}
 use Rattle.node_spec.specs.PatternKeys.Matches.{by_itself, by_pattern}
 use Rattle.node_spec.specs.PatternKeys.Precedes.{without_star, by_longer_base, by_longer_key}
-use Rattle.node_spec.proofs.PatternParts.{part_of_match, part_length, fits_from_part, same_pattern, no_pattern, pattern_length}
+use Rattle.node_spec.proofs.PatternParts.{part_of_match, part_length, same_pattern, no_pattern, pattern_length}
 use Rattle.exports_patterns.specs.declared.pattern_keys.Match.{Match}
 use Rattle.exports_patterns.specs.Fitting.{NoneFits, IsFitting, IsBestFitting, IsTried}
-use Rattle.exports_patterns.specs.Found.{match_shown, HasSpan, IsMatch, IsFound}
+use Rattle.exports_patterns.specs.Found.{HasSpan, IsMatch, IsFound}
 use Rattle.exports_patterns.specs.Fronts.{text_at, StandsAt, IsTop}
 use Rattle.exports_patterns.specs.Indexes.{Group, IsPart, IsIndexOf}
-use Rattle.exports_patterns.proofs.FrontLemmas.{front_length, same_front, whole_front, keys_length, key_here, one_stands}
-use Rattle.exports_patterns.proofs.KeyLemmas.{is_pattern_match, span_of_pattern, span_of_key}
+use Rattle.exports_patterns.proofs.FrontLemmas.{front_length, same_front, whole_front, key_here}
+use Rattle.exports_patterns.proofs.KeyLemmas.{is_pattern_match, span_of_pattern}
 
 -- ---- a part of the text between a base and a trailer
 
@@ -284,16 +284,17 @@ module _ (names : List (List ℕ)) (exact : List (List ℕ × ℕ)) (patterns : 
         let there = index.group_listed b (reverse t) at.0 at.1 p.before_star m in
         let also = index.pattern_listed b (reverse t) at.0 there.0 at.1 p.before_star m there.1 in
         let begins = starts_with_base b t s in
-        let turned = part_turned b t s in
-        (elim (others there.1.0 b there.0 (there.1.1, there.1.2) begins) [
-          | inl none ↦ absurd (none (reverse t) at.0 also turned)
-          | inr shorter ↦ shorter
-        ],
-        λ long. (let same : b ≡ base = same_front asked b base begins (starts_with_base base (reverse back) fits) long in
-            let in_group : Contains group (reverse t, at.0) = index.pattern_listed b (reverse t) at.0 group at.1 p.before_star m (subst (λ x. Contains patterns (x, group)) (sym same) is_listed) in
-            let l = longest (reverse t) at.0 in_group (subst (λ x. PartStands asked x (reverse (reverse t))) same turned) in
-            let r = length-reverse t in
-            omega arith))
+        let turned = part_turned b t s in (
+          elim (others there.1.0 b there.0 (there.1.1, there.1.2) begins) [
+            | inl none ↦ absurd (none (reverse t) at.0 also turned)
+            | inr shorter ↦ shorter
+          ],
+          λ long. (let same : b ≡ base = same_front asked b base begins (starts_with_base base (reverse back) fits) long in
+              let in_group : Contains group (reverse t, at.0) = index.pattern_listed b (reverse t) at.0 group at.1 p.before_star m (subst (λ x. Contains patterns (x, group)) (sym same) is_listed) in
+              let l = longest (reverse t) at.0 in_group (subst (λ x. PartStands asked x (reverse (reverse t))) same turned) in
+              let r = length-reverse t in
+              omega arith),
+        )
 
     none_before : (other : List ℕ) (also : KeyMatch) → Contains names other → Matches asked other also → Precedes other key → ⊥
     none_before other also c (by_itself e n) before =

@@ -1,18 +1,16 @@
 -- What stands between a front of a text and the text begins with that front; so links lead to all fronts.
-use Rattle.std.proofs.Common.{◌≡◌, ◌≢◌, ◌<◌, ◌≤◌, ◌+◌, ◌-◌, ◌++◌, ◌∷◌, ℕ, zero, suc, Bool, true, false, List, [], length, get_or, refl, sym, ap, ◌∙◌, subst, arith, length-append, Option, Some, None, Bor}
+use Rattle.std.proofs.Common.{◌≡◌, ◌≢◌, ◌<◌, ◌≤◌, ◌+◌, ◌-◌, ◌++◌, ◌∷◌, ℕ, Bool, true, false, List, [], length, refl, sym, ap, ◌∙◌, subst, arith, length-append, Option, Some, None, Bor}
 use Rattle.std.specs.Prelude.{not, slice_index, slice_index_or, is_some, IsTrue, MatchOption, ◌↔◌}
-use Rattle.std.specs.declared.cmp.Ordering.{Ordering}
 use Rattle.std.specs.declared.cmp.Ordering.TheVariants.{Less, Equal, Greater}
 use Rattle.std.specs.Ordering.{nat_cmp, is_lt, ordering_then, ordering_reverse}
 use Rattle.std.specs.Cmp.{nat_cmp_total}
 use Rattle.std.specs.Cmp.Lexicographic.{slice_cmp, nat_list_cmp_total}
 use Rattle.std.specs.FinMap.{nat_cmp-IsAntisymmetric}
-use Rattle.std.specs.List.{Contains}
 use Rattle.std.specs.List.Sorted.{IsSortedByKey, IsPartitionPoint, IsPartitionedBy}
 use Rattle.std.specs.Map.{keys_of}
 use Rattle.std.proofs.lemmas.Bool.{cases_lt, true≢false}
 use Rattle.std.specs.Cmp.{IsStrictWeakOrder}
-use Rattle.std.proofs.lemmas.List.{append-nil, length-map, get_or-map, get_or_default, get_or_push, get_or_append_left, length_push}
+use Rattle.std.proofs.lemmas.List.{append-nil, length-map, get_or-map, get_or_default, get_or_push, get_or_append_left}
 use Rattle.std.proofs.lemmas.List.Sorted.{ranks_by, sorted_far}
 use mathlib.Core.Logic.{inl, inr}
 use Rattle.node_spec.specs.PatternKeys.{StartsWith}
@@ -108,7 +106,6 @@ module _ {X : Type 0} where
 
   pub key_of : (es : List (List ℕ × X)) (k : ℕ) (d : List ℕ × X) → k < length es → text_at (keys_of es) k ≡ (slice_index_or es k d).0
   key_of es k d l = get_or-map first es k d [] l
-
 
 -- ---- links
 

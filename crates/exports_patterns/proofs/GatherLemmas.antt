@@ -1,5 +1,5 @@
 -- One more key is gathered, one more group is made, and what is gathered in the end is the index.
-use Rattle.std.proofs.Common.{◌≡◌, ◌≢◌, ◌<◌, ◌≤◌, ◌++◌, ◌∷◌, ℕ, zero, suc, true, false, List, [], length, Option, Some, None, refl, sym, ap, ◌∙◌, subst, arith}
+use Rattle.std.proofs.Common.{◌≡◌, ◌≢◌, ◌<◌, ◌++◌, ◌∷◌, ℕ, zero, suc, false, List, [], length, Option, Some, None, refl, sym, ap, ◌∙◌, subst, arith}
 use Rattle.std.specs.Prelude.{Result, Ok, Err, OnOk, reverse, slice_get, slice_index_or, unwrap_or, bytes_eq, IsUtf8}
 use Rattle.std.specs.Ordering.{nat_cmp}
 use Rattle.std.specs.Cmp.Lexicographic.{slice_cmp, nat_list_cmp_total}
@@ -169,10 +169,11 @@ module _ (done : List (List ℕ)) (name : List ℕ) (exact : List (List ℕ × �
             | inl before ↦ listed_before other back place (held.pattern_listed other back place before n m)
             | inr here ↦ (let same = same_parts other (reverse back) base trailer (sym here.1 ∙ is) n no_star in
                 let turned : reverse trailer ≡ back = ap reverse (sym same.1) ∙ reverse-reverse back in
-                let two : index ≡ place = sym at ∙ here.0 in
-                (was ++ (reverse trailer, index) ∷ [],
-                ap (group_at after) same.0 ∙ puts.here,
-                subst (λ (e : List ℕ × ℕ). Contains (was ++ (reverse trailer, index) ∷ []) e) (λ i. (turned i, two i)) (Contains-push was (reverse trailer, index))))
+                let two : index ≡ place = sym at ∙ here.0 in (
+                  was ++ (reverse trailer, index) ∷ [],
+                  ap (group_at after) same.0 ∙ puts.here,
+                  subst (λ (e : List ℕ × ℕ). Contains (was ++ (reverse trailer, index) ∷ []) e) (λ i. (turned i, two i)) (Contains-push was (reverse trailer, index)),
+                ))
           ];
     }
       where
@@ -183,10 +184,11 @@ module _ (done : List (List ℕ)) (name : List ℕ) (exact : List (List ℕ × �
         listed_before other back place g =
             elim (cases_Bool (bytes_eq other base)) [
               | inl same ↦ (let e : other ≡ base = (bytes_eq-Decides other base).0 same in
-                  let there : was ≡ g.0 = was_there g.0 (ap (group_at groups) (sym e) ∙ g.1) in
-                  (was ++ (reverse trailer, index) ∷ [],
-                  ap (group_at after) e ∙ puts.here,
-                  Contains-append_left was ((reverse trailer, index) ∷ []) (back, place) (subst (λ (h : Group). Contains h (back, place)) (sym there) g.2)))
+                  let there : was ≡ g.0 = was_there g.0 (ap (group_at groups) (sym e) ∙ g.1) in (
+                    was ++ (reverse trailer, index) ∷ [],
+                    ap (group_at after) e ∙ puts.here,
+                    Contains-append_left was ((reverse trailer, index) ∷ []) (back, place) (subst (λ (h : Group). Contains h (back, place)) (sym there) g.2),
+                  ))
               | inr apart ↦ (g.0, puts.others other (distinct other apart) ∙ g.1, g.2)
             ]
 

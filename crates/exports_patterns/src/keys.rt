@@ -78,7 +78,9 @@ fn put_key(alloc: Global, gathered: &mut Gathered, name: &str, index: usize) -> 
 {
     match at_star(name) {
         None => {
-            gathered.exact.push((Bytes::of(alloc, name.as_bytes())?, index))?;
+            gathered
+                .exact
+                .push((Bytes::of(alloc, name.as_bytes())?, index))?;
             Ok(())
         }
         Some((base, trailer)) => match at_star(trailer) {
@@ -113,7 +115,10 @@ fn put_pattern(
 }
 
 // The groups, each in order.
-fn in_order(alloc: Global, groups: BTreeMap<Text, Group>) -> Result<Listed<(Bytes, Fronts<usize>)>, Memory>
+fn in_order(
+    alloc: Global,
+    groups: BTreeMap<Text, Group>,
+) -> Result<Listed<(Bytes, Fronts<usize>)>, Memory>
     ensures grouped { IfOk result (HasGrouped groups.entries []) }
     ensures ordered { IfOk result (λ made. IsOrdered (slice_cmp nat_cmp) groups) }
 {

@@ -87,7 +87,13 @@ fn main_export(
         Value::List(_) => export_target(alloc, package_folder, value, None, conditions),
         Value::Object(members) => {
             if exports.index.has_dotted {
-                dot_export(alloc, package_folder, members, &exports.index.keys, conditions)
+                dot_export(
+                    alloc,
+                    package_folder,
+                    members,
+                    &exports.index.keys,
+                    conditions,
+                )
             } else {
                 export_target(alloc, package_folder, value, None, conditions)
             }
@@ -143,7 +149,14 @@ fn subpath_export(
     match &exports.value {
         Value::Object(members) => {
             if exports.index.are_dotted {
-                export_at(alloc, package_folder, subpath, members, &exports.index.keys, conditions)
+                export_at(
+                    alloc,
+                    package_folder,
+                    subpath,
+                    members,
+                    &exports.index.keys,
+                    conditions,
+                )
             } else {
                 Err(NodeFault::Refused(Cause::NotExported))
             }

@@ -1,4 +1,4 @@
-use Rattle.std.proofs.Common.{◌≡◌, ◌+◌, ◌<◌, ◌++◌, ◌∷◌, [], length, arith, rules, ap, subst, sym, ◌∙◌}
+use Rattle.std.proofs.Common.{◌≡◌, ◌+◌, ◌++◌, ◌∷◌, [], length, arith, rules, ap, subst, sym, ◌∙◌}
 use Rattle.std.proofs.lemmas.List.{length_push}
 use Rattle.std.specs.Map.{keys_of}
 use Rattle.exports_patterns.specs.Fronts.{Covers, IsTop, LinkedBelow}
@@ -11,7 +11,7 @@ loop-at-preserved g c =
     let pushed : c.push.new.self.items ≡ c.loop-at.links.items ++ c.climb-link.result ∷ [] = search rules in
     let covered = covered_at_link (keys_of c.args.entries.now) c.loop-at.at c.requires (omega arith) in
     let top = subst (λ t. IsTop (keys_of c.args.entries.now) t c.loop-at.at c.climb-link.result) c.text_of.ensures
-        (c.climb-link.ensures c.loop-at.at (omega arith) (subst (λ t. Covers (keys_of c.args.entries.now) t c.loop-at.at c.loop-at.at) (sym c.text_of.ensures) covered)) in
+    (c.climb-link.ensures c.loop-at.at (omega arith) (subst (λ t. Covers (keys_of c.args.entries.now) t c.loop-at.at c.loop-at.at) (sym c.text_of.ensures) covered)) in
     record {
       linked = subst (λ ls. LinkedBelow (keys_of c.args.entries.now) ls (c.loop-at.at + 1)) (sym pushed)
           (more_links (keys_of c.args.entries.now) c.loop-at.links.items c.climb-link.result c.loop-at.at c.loop-at.invariant.long c.loop-at.invariant.linked top);

@@ -16,4 +16,4 @@ returns-in_ok-insert-in-None c =
     let pushed : c.push-in-None.new.self ≡ (c.in_ok-back.back, c.args.index) ∷ [] = search rules in
     subst (λ b. PutsPattern b (reverse c.args.trailer.now, c.args.index) c.args.groups.now c.insert.new.self) c.in_ok-base.ensures
     (puts_new c.args.groups.now c.insert.new.self c.in_ok-base.base (reverse c.args.trailer.now, c.args.index) c.push-in-None.new.self
-    (search rules) (pushed ∙ ap (λ b. (b, c.args.index) ∷ []) c.in_ok-back.ensures) c.in_ok-insert-in-None.ensures.updates)
+    (search rules) (pushed ∙ ap (λ b. (b, c.args.index) ∷ []) c.in_ok-back.ensures) (search rules))

@@ -14,7 +14,7 @@ pub loop-at-smaller : goal.loop-at-smaller
 loop-at-smaller c =
     let held = c.loop-at.invariant in
     let top = c.next-at.ensures held.most
-        (subst (λ t. IsTop (keys_of c.args.patterns.now) t c.loop-at.invariant.most c.loop-at.at) (sym c.as_bytes-in-loop-at.ensures.value) held.top) in
+    (subst (λ t. IsTop (keys_of c.args.patterns.now) t c.loop-at.invariant.most c.loop-at.at) (sym c.as_bytes-in-loop-at.ensures.value) held.top) in
     let within = top.within in
     let some = c.loop-at-test.true in
     omega arith
@@ -23,7 +23,7 @@ pub loop-at-preserved : goal.loop-at-preserved
 loop-at-preserved c =
     let held = c.loop-at.invariant in
     let top = c.next-at.ensures held.most
-        (subst (λ t. IsTop (keys_of c.args.patterns.now) t c.loop-at.invariant.most c.loop-at.at) (sym c.as_bytes-in-loop-at.ensures.value) held.top) in
+    (subst (λ t. IsTop (keys_of c.args.patterns.now) t c.loop-at.invariant.most c.loop-at.at) (sym c.as_bytes-in-loop-at.ensures.value) held.top) in
     sought_next c.args.asked.now c.args.patterns.now c.loop-at.at c.next-at.result c.loop-at-test.true held c.in-None.ensures
     (subst (λ t. IsTop (keys_of c.args.patterns.now) t (c.loop-at.at - 1) c.next-at.result) c.as_bytes-in-loop-at.ensures.value top)
 
