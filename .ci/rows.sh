@@ -392,13 +392,13 @@ page folder 7 'bad file: page absent' </dev/null
 mkdir "$kept/cut" && printf '<head' >"$kept/cut/index.html" && : >"$kept/cut/app.mjs"
 page cut 1 'refused: PageUnclear at 0' <"$kept/cut/index.html"
 
-# Checks the map of the folder $kept/NAME, with a project of the entry ./app.mjs: checked NAME STATUS, and the lines on
-# the standard input. Nothing may be written.
+# Checks the map of the folder $kept/NAME, with a project of the entry ./app.mjs: checked NAME STATUS [--strict], and the
+# lines on the standard input. Nothing may be written.
 checked() {
     cat >"$kept/wanted"
     project ./app.mjs >"$kept/$1/importmap.project.json"
     before=$(cd "$kept/$1" && find . | sort)
-    (cd "$kept/$1" && "$program" check >"$kept/out")
+    (cd "$kept/$1" && "$program" check $3 >"$kept/out")
     status=$?
     after=$(cd "$kept/$1" && find . | sort)
     if [ "$status" = "$2" ] && diff "$kept/wanted" "$kept/out" && [ "$before" = "$after" ]; then
@@ -431,7 +431,42 @@ LINES
 mkdir "$kept/otherdigest" && : >"$kept/otherdigest/app.mjs" &&
     echo '{"integrity":{"/app.mjs":"sha384-another","/b.mjs":"sha384-another"}}' >"$kept/otherdigest/importmap.json"
 echo 'ok: 1 needs served' | checked otherdigest 0
+echo 'ok: 1 needs served' | checked otherdigest 0 --strict
 
+# Of modules that the statement grammar doesn't match a strict check alone says something, behind the needs that aren't
+# served: where the second number stands, and the length of a text in which more should follow.
+mkdir "$kept/unmatched" && echo 'import "./b.mjs?x"; let a = 1 2;' >"$kept/unmatched/app.mjs" &&
+    printf 'let b =' >"$kept/unmatched/b.mjs" &&
+    echo '{"imports":{"/b.mjs?x":"/app.mjs"}}' >"$kept/unmatched/importmap.json"
+checked unmatched 6 --strict <<'LINES'
+differs: from "/app.mjs" for "./b.mjs?x" wants "https://app.test/b.mjs?x" gets "https://app.test/app.mjs"
+strict: "/app.mjs" Syntax at 30
+strict: "/b.mjs?x" Syntax at 7
+3 differences
+LINES
+checked unmatched 6 <<'LINES'
+differs: from "/app.mjs" for "./b.mjs?x" wants "https://app.test/b.mjs?x" gets "https://app.test/app.mjs"
+1 differences
+LINES
+
+# A statement, an assignment, 997 operands below an operator and one without are as many forms as may be open in one
+# another. With one more the command is refused, whatever needs aren't served; a check that isn't strict counts none. A
+# place before, at which the grammar can't go on, is told instead.
+mkdir "$kept/nested" && { printf '!%.0s' $(seq 997) && echo 'a;'; } >"$kept/nested/app.mjs" &&
+    echo '{}' >"$kept/nested/importmap.json"
+echo 'ok: 1 needs served' | checked nested 0 --strict
+{ printf '!%.0s' $(seq 998) && echo 'a; import "./b.mjs";'; } >"$kept/nested/app.mjs" && : >"$kept/nested/b.mjs" &&
+    echo '{"imports":{"/b.mjs":"/app.mjs"}}' >"$kept/nested/importmap.json"
+echo 'limit: nesting above 1000' | checked nested 3 --strict
+checked nested 6 <<'LINES'
+differs: from "/app.mjs" for "./b.mjs" wants "https://app.test/b.mjs" gets "https://app.test/app.mjs"
+1 differences
+LINES
+{ printf 'let 1; ' && printf '!%.0s' $(seq 998) && echo 'a;'; } >"$kept/nested/app.mjs"
+checked nested 6 --strict <<'LINES'
+strict: "/app.mjs" Syntax at 4
+1 differences
+LINES
 
 # What the disk doesn't give is told on standard error.
 mkdir "$kept/linked" && echo 'import "./b.mjs";' >"$kept/linked/app.mjs" && ln -s app.mjs "$kept/linked/b.mjs"

@@ -1,5 +1,5 @@
 -- How a session ends that is held on the project of a folder.
-use Rattle.std.proofs.Common.{◌≡◌, ◌≤◌, ◌++◌, [], ◌∷◌, ℕ, List, Option, Some, None, IfSome, refl, sym, ap, ◌∙◌, subst, inl, inr, arith}
+use Rattle.std.proofs.Common.{◌≡◌, ◌≤◌, ◌++◌, [], ◌∷◌, ℕ, List, Option, Some, None, IfSome, ◌⊎◌, refl, sym, ap, ◌∙◌, subst, inl, inr, arith}
 use Rattle.std.proofs.lemmas.List.{append-nil}
 use Rattle.std.proofs.lemmas.List.Elements.{All-nil}
 use Rattle.tree_spec.specs.Counts.{Rose}
@@ -28,12 +28,13 @@ use Rattle.generator_spec.specs.Outcome.{RefusesRun, RefusesRun as refuses_run}
 use Rattle.generator_spec.specs.Statuses.{memory_status, read_fault_status}
 use Rattle.session_input.proofs.ReaderLemmas.{takes_none}
 use Rattle.session_run.specs.Sessions.{HoldsSession}
+use Rattle.session_run.proofs.SessionLemmas.{none_awaited, none_front}
 use Rattle.soundness.proofs.SessionMaps.{session_maps_serve}
 use Rattle.session_spec.specs.SessionRuns as runs
-use Rattle.session_spec.specs.SessionRuns.{IsSessionShaped as shaped, RepliesTo as replies_to}
-use Rattle.session_spec.specs.Openings.{refresh_words}
+use Rattle.session_spec.specs.SessionRuns.{RepliesTo as replies_to}
+use Rattle.session_spec.specs.Openings.{refresh_words, CanOpen}
 use Rattle.session_spec.specs.SessionLooks.{IsSessionLook, AsksFresh, AsksWithin}
-use Rattle.session_spec.specs.SessionRuns.{IsAwaited, StatesServe, NoFault, RepliesTo, RepliesToAll, SessionComesTo, SessionSays, SessionStops, SessionEnds}
+use Rattle.session_spec.specs.SessionRuns.{StatesServe, NoFault, RepliesTo, RepliesToAll, SessionComesTo, SessionSays, SessionStops, SessionEnds}
 use Rattle.session_spec.proofs.SessionSpending.{none_spent}
 use Rattle.generator_core.specs.Configuring.{StopsConfig, StopsConfig as stops_config}
 use Rattle.generator_core.specs.Writing.{TellsStop, TellsWords}
@@ -71,14 +72,14 @@ module _ (before middle after : FolderState) (same_tree : middle.holds ≡ befor
 
   says_before : (status : ℕ) (text : List ℕ) → SessionSays middle after source later taken status text → SessionSays before after source later taken status text
   says_before status text (runs.outcome shaped none here whole) = runs.outcome shaped (no_fault none) (of_before (Comes status text) here) (of_before (ComesWhole status text) whole)
-  says_before status text (runs.memory front none told is_status is_text) = runs.memory front (no_fault none) (of_before (Replied front) told) is_status is_text
-  says_before status text (runs.look_fault front rose same told is_status is_text) =
-      runs.look_fault front (subst (λ (n : ℕ). Rose n after.look_faults) quiet rose) same (of_before (Replied front) told) is_status is_text
-  says_before status text (runs.take_fault front same rose told is_status is_text) = runs.take_fault front (same ∙ quiet) rose (of_before (AllReplied front) told) is_status is_text
+  says_before status text (runs.memory front shaped none told is_status is_text) = runs.memory front shaped (no_fault none) (of_before (Replied front) told) is_status is_text
+  says_before status text (runs.look_fault front shaped rose same told is_status is_text) =
+      runs.look_fault front shaped (subst (λ (n : ℕ). Rose n after.look_faults) quiet rose) same (of_before (Replied front) told) is_status is_text
+  says_before status text (runs.take_fault front opened left_open same rose told is_status is_text) = runs.take_fault front opened left_open (same ∙ quiet) rose (of_before (AllReplied front) told) is_status is_text
 
   stops_before : (out gone : SinkState) (result : ℕ) → SessionStops middle after source later taken out gone result → SessionStops before after source later taken out gone result
   stops_before out gone result (runs.said status text says ends) = runs.said status text (says_before status text says) ends
-  stops_before out gone result (runs.cut_off text none told is_status gives rose) = runs.cut_off text (no_fault none) (of_before (Replied text) told) is_status gives rose
+  stops_before out gone result (runs.cut_off text opened none told is_status gives rose) = runs.cut_off text opened (no_fault none) (of_before (Replied text) told) is_status gives rose
 
 asks_both :
     (taken : List ℕ) (holds before_holds : Option Tree) → holds ≡ before_holds → (middle after : FolderState) (told : Option (List (List ℕ))) → IfSome told (λ old. AsksOwn (project_path ∷ []) old middle)
@@ -103,7 +104,8 @@ ends_before before middle after source later out gone result spent spent_after l
       taken = is.taken;
       takes = is.takes;
       few = is.few;
-      awaited = of_before before middle after looked.tree quiet source later is.taken (λ tree. IsAwaited tree is.taken) is.awaited;
+      awaited = is.awaited;
+      opened = of_before before middle after looked.tree quiet source later is.taken (λ tree. (is.taken ≡ []) ⊎ CanOpen tree) is.opened;
       steps = is.steps;
       asked = asks_both is.taken middle.holds before.holds looked.tree middle after before.asked own held.fresh;
       stops = stops_before before middle after looked.tree quiet source later is.taken out gone result is.stops;
@@ -131,7 +133,8 @@ module _ (before after : FolderState) (source : SourceState) (out gone : SinkSta
     taken = [];
     takes = takes_none source;
     few = omega arith;
-    awaited = if_all before.holds (λ tree. inl refl);
+    awaited = none_awaited;
+    opened = if_all before.holds (λ tree. inl refl);
     asked = if_some before.asked (λ old is. record { first = is.first; is_first = is.is_own; then = nothing_fresh before.holds after (old ++ is.first) is.asked }) own;
     steps = none_spent [] spent;
     stops = stops;
@@ -139,12 +142,12 @@ module _ (before after : FolderState) (source : SourceState) (out gone : SinkSta
   }
 
   memory_at_once : after.look_faults ≡ before.look_faults → Ends memory_status memory_line out gone result → StopsAtOnce
-  memory_at_once quiet told = runs.said memory_status memory_line (runs.memory [] (quiet, refl) nothing_said refl refl) told
+  memory_at_once quiet told = runs.said memory_status memory_line (runs.memory [] none_front (quiet, refl) nothing_said refl refl) told
 
   refused_at_once : (why : Refusal) → CanRefuse refresh_words why → after.look_faults ≡ before.look_faults → IfSome before.holds (λ tree. RefusesRun refresh_words tree why) → TellsRefusal why out gone result → StopsAtOnce
   refused_at_once why can quiet refuses (inl told) =
       runs.said (status_of why) (line_of why)
-      (runs.outcome (shaped.unopened why can refl refl) (quiet, refl) (if_some before.holds (λ tree because. runs.refused why because) refuses)
+      (runs.outcome (inr (refl, record { why = why; can = can; ends = refl; says = refl })) (quiet, refl) (if_some before.holds (λ tree because. runs.refused why because) refuses)
       (if_some before.holds (λ tree because. if_all source.left (λ input. runs.refused why because)) refuses)) told
   refused_at_once why can quiet refuses (inr told) = memory_at_once quiet told
 
@@ -157,7 +160,7 @@ module _ (before after : FolderState) (source : SourceState) (out gone : SinkSta
       (refused_at_once (Configured fault) (can_refuse.by_project fault can) (looks.quiet (λ e. e)) (if_some before.holds (λ tree because. refuses_run.by_project fault because) refuses) (subst (λ (s : Stop). TellsStop s out gone result) same told))
   stopped_ends stop (stops_config.read_fault same looks) own told later =
       unopened_ends looks later own
-      (runs.said read_fault_status read_fault_line (runs.look_fault [] (looks.cause same) refl nothing_said refl refl) (subst (λ (s : Stop). TellsStop s out gone result) same told))
+      (runs.said read_fault_status read_fault_line (runs.look_fault [] none_front (looks.cause same) refl nothing_said refl refl) (subst (λ (s : Stop). TellsStop s out gone result) same told))
   stopped_ends stop (stops_config.memory same looks) own told later =
       unopened_ends looks later own (memory_at_once (looks.quiet (λ e. e)) (subst (λ (s : Stop). TellsStop s out gone result) same told))
 

@@ -1,12 +1,12 @@
 -- The last `/` of a text, and the fronts of that text.
-use Rattle.std.proofs.Common.{◌≡◌, ◌≢◌, ℕ, zero, suc, ◌<◌, ◌≤◌, ◌-◌, ◌++◌, true, false, List, [], ◌∷◌, take, drop, length, sym, ap, ◌∙◌, subst, arith, get_or, min}
+use Rattle.std.proofs.Common.{◌≡◌, ◌≢◌, ℕ, zero, suc, ◌<◌, ◌≤◌, ◌+◌, ◌-◌, ◌++◌, true, false, List, [], ◌∷◌, take, drop, length, sym, ap, ◌∙◌, subst, arith, get_or, min, lit<}
 use Rattle.std.specs.Prelude.{nat_eq, codes, ◌&&◌}
 use Rattle.std.specs.Prelude.{IsUtf8, IsCharBoundary}
-use Rattle.std.proofs.lemmas.Str.{IsCharBoundary-from_take}
+use Rattle.std.proofs.lemmas.Str.{IsCharBoundary-after_ascii}
 use Rattle.std.specs.Cmp.Lexicographic.{pointwise}
 use Rattle.std.proofs.Math.Seq.{take-suc}
 use Rattle.std.proofs.lemmas.Bool.{ne_eqb}
-use Rattle.std.proofs.lemmas.List.{get_or-take, length-take, take-take, take-append-drop, drop_at, length-take-le}
+use Rattle.std.proofs.lemmas.List.{get_or-take, length-take, take-append-drop, drop_at, length-take-le}
 use Rattle.std.proofs.lemmas.List.{length_push}
 use Rattle.html_resolve.specs.Fronts.{NoneBetween, HasNoFront, IsNextFront}
 use Rattle.url_spec.specs.Specifiers.{ends_in_slash}
@@ -51,32 +51,40 @@ module _ (text left : List ℕ) (e : left ≡ take (length left) text) where
   none_at_all none zero p q = absurd (omega arith)
   none_at_all none (suc i) p q = no_slash_at i (omega arith) (none i (omega arith))
 
-  pub no_front : ((i : ℕ) → i < length left → get_or left i 0 ≢ 47) → HasNoFront text (length left)
-  no_front absent = record { none = none_at_all absent }
-
-  pub next_one :
-      (k : ℕ) (front rest before : List ℕ) → k < length left → get_or left k 0 ≡ 47 → NoSlash left k → front ≡ take (suc k) left → rest ≡ drop (length front) text → before ≡ take k left
+  front_at :
+      (k : ℕ) (front rest before : List ℕ) → k < length left → get_or left k 0 ≡ 47 → NoSlash left k → front ≡ take (suc k) text → rest ≡ drop (suc k) text → before ≡ take k text
       → IsNextFront text (length left) front rest before
-  next_one k front rest before l s absent f r b =
+  front_at k front rest before l s absent f r b =
       let w = within_text text left e in
-      let of_text : front ≡ take (suc k) text = f ∙ (ap (take (suc k)) e ∙ take-take (suc k) (length left) text (omega arith)) in
-      let long : length front ≡ suc k = ap length f ∙ length-take-le (suc k) left (omega arith) in
-      let short : length before ≡ k = ap length b ∙ length-take-le k left (omega arith) in
+      let long : length front ≡ suc k = ap length f ∙ length-take-le (suc k) text (omega arith) in
+      let short : length before ≡ k = ap length b ∙ length-take-le k text (omega arith) in
       record {
-        whole = sym (take-append-drop (suc k) text) ∙ ap2 of_text (r ∙ ap (λ n. drop n text) long);
-        slash = ap ends_in_slash of_text ∙ slash_at k l s;
+        whole = sym (take-append-drop (suc k) text) ∙ (λ i. sym f i ++ sym r i);
+        slash = ap ends_in_slash f ∙ slash_at k l s;
         within = omega arith;
         none = subst (λ m. NoneBetween text m (length left)) (sym long) (none_above k absent);
-        left = b ∙ (ap (take k) e ∙ (take-take k (length left) text (omega arith) ∙ ap (λ n. take n text) (sym short)));
+        left = b ∙ ap (λ n. take n text) (sym short);
         shorter = omega arith;
       }
-    where
-      ap2 : front ≡ take (suc k) text → rest ≡ drop (suc k) text → take (suc k) text ++ drop (suc k) text ≡ front ++ rest
-      ap2 p q = λ i. sym p i ++ sym q i
 
-  pub cut : (k : ℕ) (front : List ℕ) → k < length left → front ≡ take (suc k) left → IsUtf8 text → IsUtf8 front → IsCharBoundary text (length front)
-  cut k front l f t u =
-      let w = within_text text left e in
-      let of_text : front ≡ take (suc k) text = f ∙ (ap (take (suc k)) e ∙ take-take (suc k) (length left) text (omega arith)) in
-      let long : length front ≡ suc k = ap length f ∙ length-take-le (suc k) left (omega arith) in
-      IsCharBoundary-from_take text (length front) t (omega arith) (subst IsUtf8 (of_text ∙ ap (λ n. take n text) (sym long)) u)
+-- the fronts of at most so many bytes, where these are the bytes
+module _ (text left : List ℕ) (limit : ℕ) (within : limit ≤ length text) (is : left ≡ take limit text) where
+  long : length left ≡ limit
+  long = ap length is ∙ length-take-le limit text within
+
+  front_is : left ≡ take (length left) text
+  front_is = is ∙ ap (λ n. take n text) (sym long)
+
+  pub no_front : ((i : ℕ) → i < length left → get_or left i 0 ≢ 47) → HasNoFront text limit
+  no_front absent = record { none = subst (NoneBetween text 0) long (none_at_all text left front_is absent) }
+
+  pub next_one :
+      (k : ℕ) (front rest before : List ℕ) → k < length left → get_or left k 0 ≡ 47 → NoSlash left k → front ≡ take (suc k) text → rest ≡ drop (suc k) text → before ≡ take k text
+      → IsNextFront text limit front rest before
+  next_one k front rest before l s absent f r b = subst (λ n. IsNextFront text n front rest before) long (front_at text left front_is k front rest before l s absent f r b)
+
+  pub behind_slash : (k : ℕ) → k < length left → get_or left k 0 ≡ 47 → IsUtf8 text → IsCharBoundary text (k + 1)
+  behind_slash k l s u =
+      let here : get_or text k 0 ≡ 47 = sym (same_byte text left front_is k l) ∙ s in
+      let e = long in
+      IsCharBoundary-after_ascii text k u (omega arith) (subst (λ b. b < 128) (sym here) (lit< tt))

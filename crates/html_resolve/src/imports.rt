@@ -49,7 +49,8 @@ fn match_key(alloc: Global, addresses: &Addresses, text: &str) -> Result<Option<
     }
 }
 
-// The keys that are fronts of the specifier, from the longest to the shortest.
+// The keys that are fronts of the specifier, from the longest to the shortest. Fronts that are longer than what keys
+// have in common with the specifier are passed over.
 #[tactic(auto, using(crate::proofs::OutcomeLemmas::outcomes))]
 fn match_prefixes(
     alloc: Global,
@@ -58,14 +59,14 @@ fn match_prefixes(
 ) -> Result<Option<WebUrl>, HtmlFault>
     ensures { Finds result (longest_front (prefix_key (get addresses.now)) text.now (length text.now)) }
 {
-    let mut left = text;
-    while let Some(front) = next_front(text, left) {
+    let mut limit = addresses.reach(text);
+    while let Some(front) = next_front(text, limit) {
         match match_prefix(alloc, addresses, front.text, front.rest) {
             Err(fault) => return Err(fault),
             Ok(Some(found)) => return Ok(Some(found)),
             Ok(None) => {}
         }
-        left = front.before;
+        limit = addresses.reach(front.before);
     }
     Ok(None)
 }

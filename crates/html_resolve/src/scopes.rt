@@ -29,7 +29,8 @@ pub fn match_scopes(
     }
 }
 
-// The scopes whose keys are fronts of the referrer, from the longest to the shortest.
+// The scopes whose keys are fronts of the referrer, from the longest to the shortest. Behind a front that is no key,
+// those that are longer than what keys have in common with it are passed over.
 #[tactic(auto, using(crate::proofs::OutcomeLemmas::outcomes))]
 fn match_folders(
     alloc: Global,
@@ -42,14 +43,22 @@ fn match_folders(
         → Finds result (longest_front (prefix_scope url text.now (scope_addresses map.now.scopes)) referrer.now
         (length referrer.now)) }
 {
-    let mut left = referrer;
-    while let Some(front) = next_front(referrer, left) {
-        match match_scope(alloc, map, front.text, text, prefixes) {
-            Err(fault) => return Err(fault),
-            Ok(Some(found)) => return Ok(Some(found)),
-            Ok(None) => {}
+    let mut limit = map.scope_reach(referrer);
+    let mut near = 0;
+    while let Some(front) = next_front(referrer, limit) {
+        let (scope, place) = map.scope_near(front.text, near);
+        near = place.saturating_sub(1);
+        match scope {
+            None => limit = map.scope_reach(front.before),
+            Some(addresses) => {
+                match match_imports(alloc, addresses, text, prefixes) {
+                    Err(fault) => return Err(fault),
+                    Ok(Some(found)) => return Ok(Some(found)),
+                    Ok(None) => {}
+                }
+                limit = front.before.len();
+            }
         }
-        left = front.before;
     }
     Ok(None)
 }

@@ -1,3 +1,4 @@
 pub mod TextMapLemmas
+pub mod ReachLemmas
 pub mod FaultLemmas
 pub mod ScopeLemmas

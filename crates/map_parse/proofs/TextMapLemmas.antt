@@ -6,7 +6,7 @@ use Rattle.std.specs.declared.cmp.Ordering.TheVariants.{Less, Equal, Greater}
 use Rattle.std.specs.Ordering.{nat_cmp, is_lt, is_eq, ordering_reverse}
 use Rattle.std.specs.Cmp.Lexicographic.{slice_cmp, nat_list_cmp_total, texts_ties, pointwise}
 use Rattle.std.specs.Cmp.{eq_by_cmp_equiv}
-use Rattle.std.specs.List.Sorted.{ties, IsStableBy, IsPartitionedBy, IsPartitionPoint}
+use Rattle.std.specs.List.Sorted.{ties, IsStableBy, IsPartitionedBy}
 use Rattle.std.specs.FinMap.{FinMap, get, insert, empty, find, from_entries, get-from_entries, same_map, slice_cmp-IsAntisymmetric, nat_cmp-IsAntisymmetric}
 use Rattle.std.proofs.lemmas.Bool.{cases_Bool, cases_lt, cond-true, cond-false, true≢false}
 use Rattle.std.proofs.lemmas.List.{reverse-append}
@@ -14,7 +14,7 @@ use Rattle.std.proofs.lemmas.List.Elements.{filter_agree}
 use Rattle.std.proofs.lemmas.List.Sorted.{ranks_by, sorted_far}
 use mathlib.Core.Logic.{inl, inr}
 use Rattle.import_map_spec.proofs.Entries.{same_key, same_key_is, cases_option}
-use Rattle.map_parse.specs.TextMaps.{first_wins, last_wins, IsAscending}
+use Rattle.map_parse.specs.TextMaps.{first_wins, last_wins, IsAscending, IsPlace}
 
 pub no_entries : {X : Type 0} (es : List (List ℕ × X)) → es ≡ [] → last_wins es ≡ empty
 unfolding last_wins
@@ -98,7 +98,7 @@ module _ {X : Type 0} where
 
   -- ---- what is looked up by halves
 
-  found_none : (q : List ℕ) (xs : List (List ℕ × X)) → ((k : ℕ) (d : List ℕ × X) → k < length xs → same_key q (slice_index_or xs k d).0 ≡ false) → found q xs ≡ None
+  pub found_none : (q : List ℕ) (xs : List (List ℕ × X)) → ((k : ℕ) (d : List ℕ × X) → k < length xs → same_key q (slice_index_or xs k d).0 ≡ false) → found q xs ≡ None
   found_none q [] f = refl
   found_none q (e ∷ es) f = cond-false _ _ _ (f 0 e (omega arith)) ∙ found_none q es (λ k d l. f (suc k) d (omega arith))
 
@@ -110,9 +110,6 @@ module _ {X : Type 0} where
   found_at q (x ∷ xs) zero e at before same = let here : e ≡ x = at.1 e in cond-true _ _ _ (subst (λ (y : List ℕ × X). same_key q y.0 ≡ true) here same) ∙ ap (λ (y : List ℕ × X). Some y.1) (sym here)
   found_at q (x ∷ xs) (suc i) e at before same = let l = at.0 in cond-false _ _ _ (before 0 x (omega arith)) ∙ found_at q xs i e (omega arith, at.1) (λ k d m. before (suc k) d (omega arith)) same
 
-  abbrev pub IsPoint : List ℕ → List (List ℕ × X) → ℕ → Type 0
-  IsPoint q xs i = IsPartitionPoint (λ (y : List ℕ × X). is_lt (slice_cmp nat_cmp y.0 q) ≡ true) (λ (y : List ℕ × X). is_lt (slice_cmp nat_cmp y.0 q) ≡ false) xs i
-
   pub parted : (q : List ℕ) (xs : List (List ℕ × X)) → IsAscending xs → IsPartitionedBy (λ (y : List ℕ × X). is_lt (slice_cmp nat_cmp y.0 q)) xs
   parted q xs up i j d le lt e =
       let order = ranks_by nat_list_cmp_total (λ (t : List ℕ). t) in
@@ -121,18 +118,32 @@ module _ {X : Type 0} where
         | inr f ↦ absurd (true≢false (sym e ∙ order.chain (slice_index_or xs j d).0 (slice_index_or xs i d).0 q (sorted_far below (ranks_by nat_list_cmp_total (λ (y : List ℕ × X). y.0)) xs up i j d le lt) f))
       ]
 
+  not_below : (q : List ℕ) (xs : List (List ℕ × X)) (i : ℕ) (e : List ℕ × X) → IsAscending xs → IsAt xs i e → is_lt (slice_cmp nat_cmp e.0 q) ≡ false → (k : ℕ) (d : List ℕ × X) → i ≤ k → k < length xs → is_lt (slice_cmp nat_cmp (slice_index_or xs k d).0 q) ≡ false
+  not_below q xs i e up at least k d le lt =
+      elim (cases_Bool (is_lt (slice_cmp nat_cmp (slice_index_or xs k d).0 q))) [
+        | inl t ↦ absurd (true≢false (sym (parted q xs up i k d le lt t) ∙ (ap (λ (y : List ℕ × X). is_lt (slice_cmp nat_cmp y.0 q)) (sym (at.1 d)) ∙ least)))
+        | inr f ↦ f
+      ]
+
+  pub place_first : (q : List ℕ) (xs : List (List ℕ × X)) (i : ℕ) (e : List ℕ × X) → IsAscending xs → IsAt xs i e → is_lt (slice_cmp nat_cmp e.0 q) ≡ false → i ≡ 0 → IsPlace q xs i
+  place_first q xs i e up at least start = (λ k d p l. absurd (omega (arith, start)), not_below q xs i e up at least)
+
+  pub place_behind : (q : List ℕ) (xs : List (List ℕ × X)) (i j : ℕ) (e f : List ℕ × X) → IsAscending xs → IsAt xs i e → is_lt (slice_cmp nat_cmp e.0 q) ≡ false → i ≡ suc j → IsAt xs j f → is_lt (slice_cmp nat_cmp f.0 q) ≡ true → IsPlace q xs i
+  place_behind q xs i j e f up at least next here below =
+      (λ k d p l. parted q xs up k j d (omega (arith, next)) here.0 (ap (λ (y : List ℕ × X). is_lt (slice_cmp nat_cmp y.0 q)) (sym (here.1 d)) ∙ below), not_below q xs i e up at least)
+
   -- past the end nothing has the key
-  pub nothing_at : (q : List ℕ) (xs : List (List ℕ × X)) (i : ℕ) → IsPoint q xs i → length xs ≤ i → get (first_wins xs) q ≡ None
+  pub nothing_at : (q : List ℕ) (xs : List (List ℕ × X)) (i : ℕ) → IsPlace q xs i → length xs ≤ i → get (first_wins xs) q ≡ None
   unfolding first_wins
   nothing_at q xs i point past =
       get-from_entries nat_list_cmp_total xs q ∙ found_none q xs (λ k d l. below_is_other _ q (point.0 k d (omega arith) (omega arith)))
 
-  pub something_at : (q : List ℕ) (xs : List (List ℕ × X)) (i : ℕ) (e : List ℕ × X) → IsPoint q xs i → IsAt xs i e → same_key q e.0 ≡ true → get (first_wins xs) q ≡ Some e.1
+  pub something_at : (q : List ℕ) (xs : List (List ℕ × X)) (i : ℕ) (e : List ℕ × X) → IsPlace q xs i → IsAt xs i e → same_key q e.0 ≡ true → get (first_wins xs) q ≡ Some e.1
   unfolding first_wins
   something_at q xs i e point at same =
       get-from_entries nat_list_cmp_total xs q ∙ found_at q xs i e at (λ k d l. below_is_other _ q (point.0 k d (omega arith) l)) same
 
-  pub other_at : (q : List ℕ) (xs : List (List ℕ × X)) (i : ℕ) (e : List ℕ × X) → IsAscending xs → IsPoint q xs i → IsAt xs i e → same_key q e.0 ≡ false → get (first_wins xs) q ≡ None
+  pub other_at : (q : List ℕ) (xs : List (List ℕ × X)) (i : ℕ) (e : List ℕ × X) → IsAscending xs → IsPlace q xs i → IsAt xs i e → same_key q e.0 ≡ false → get (first_wins xs) q ≡ None
   unfolding first_wins
   other_at q xs i e up point at other =
       get-from_entries nat_list_cmp_total xs q
@@ -145,13 +156,13 @@ module _ {X : Type 0} where
       ])
 
   -- what the search by halves answers, where these entries are those of the map
-  pub looked_nothing : (m : FinMap (slice_cmp nat_cmp) X) (q : List ℕ) (xs ys : List (List ℕ × X)) (i : ℕ) → m ≡ first_wins xs → ys ≡ xs → IsPoint q ys i → length ys ≤ i → None ≡ get m q
+  pub looked_nothing : (m : FinMap (slice_cmp nat_cmp) X) (q : List ℕ) (xs ys : List (List ℕ × X)) (i : ℕ) → m ≡ first_wins xs → ys ≡ xs → IsPlace q ys i → length ys ≤ i → None ≡ get m q
   looked_nothing m q xs ys i e same point past = sym (nothing_at q ys i point past) ∙ ap (λ n. get n q) (ap first_wins same ∙ sym e)
 
-  pub looked_other : (m : FinMap (slice_cmp nat_cmp) X) (q : List ℕ) (xs ys : List (List ℕ × X)) (i : ℕ) (e : List ℕ × X) → m ≡ first_wins xs → ys ≡ xs → IsAscending ys → IsPoint q ys i → IsAt ys i e → same_key q e.0 ≡ false → None ≡ get m q
+  pub looked_other : (m : FinMap (slice_cmp nat_cmp) X) (q : List ℕ) (xs ys : List (List ℕ × X)) (i : ℕ) (e : List ℕ × X) → m ≡ first_wins xs → ys ≡ xs → IsAscending ys → IsPlace q ys i → IsAt ys i e → same_key q e.0 ≡ false → None ≡ get m q
   looked_other m q xs ys i x e same up point at other = sym (other_at q ys i x up point at other) ∙ ap (λ n. get n q) (ap first_wins same ∙ sym e)
 
-  pub looked_something : (m : FinMap (slice_cmp nat_cmp) X) (q : List ℕ) (xs ys : List (List ℕ × X)) (i : ℕ) (e : List ℕ × X) → m ≡ first_wins xs → ys ≡ xs → IsPoint q ys i → IsAt ys i e → same_key q e.0 ≡ true → Some e.1 ≡ get m q
+  pub looked_something : (m : FinMap (slice_cmp nat_cmp) X) (q : List ℕ) (xs ys : List (List ℕ × X)) (i : ℕ) (e : List ℕ × X) → m ≡ first_wins xs → ys ≡ xs → IsPlace q ys i → IsAt ys i e → same_key q e.0 ≡ true → Some e.1 ≡ get m q
   looked_something m q xs ys i x e same point at found = sym (something_at q ys i x point at found) ∙ ap (λ n. get n q) (ap first_wins same ∙ sym e)
 
 -- the test of a key against what is looked for

@@ -1,4 +1,4 @@
-ghost use Rattle.std.specs.Prelude.{◌≡◌, IfOk, IfSome, OnOk, option_map};
+ghost use Rattle.std.specs.Prelude.{◌≡◌, ◌<◌, ◌≤◌, ℕ, length, take, IfOk, IfSome, OnOk, None, option_map};
 ghost use Rattle.std.specs.FinMap.{get};
 ghost use Rattle.url_spec.specs.Parsing.{IsUrl};
 ghost use Rattle.import_map_spec.specs.Parsing as definition;
@@ -56,6 +56,14 @@ impl Addresses {
             Some(None) => Some(None),
             Some(Some(url)) => Some(Some(url)),
         }
+    }
+
+    /// How far keys go with a text: of its fronts that are longer, none is a key.
+    pub fn reach(&self, text: &str) -> usize
+        ensures within { result ≤ length text.now }
+        ensures none { (n : ℕ) → result < n → n ≤ length text.now → get self.now (take n text.now) ≡ None }
+    {
+        self.entries.reach(text)
     }
 
     /// The addresses that the members of an object give.

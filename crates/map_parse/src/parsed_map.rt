@@ -1,4 +1,4 @@
-ghost use Rattle.std.specs.Prelude.{◌≡◌, option_copied};
+ghost use Rattle.std.specs.Prelude.{◌≡◌, ◌<◌, ◌≤◌, ℕ, length, take, None, option_copied};
 ghost use Rattle.std.specs.FinMap.{get};
 
 use crate::{Addresses, TextMap};
@@ -37,6 +37,22 @@ impl ParsedMap {
         ensures { option_copied result ≡ get self.now.scopes key.now }
     {
         self.scopes.get(key)
+    }
+
+    /// The same with the place of the URL among those of all scopes. Where that is the place that is given, it is found at
+    /// once.
+    pub fn scope_near(&self, key: &str, near: usize) -> (Option<&Addresses>, usize)
+        ensures { option_copied result.0 ≡ get self.now.scopes key.now }
+    {
+        self.scopes.get_near(key, near)
+    }
+
+    /// How far the URLs of scopes go with a text: of its fronts that are longer, none is a scope's.
+    pub fn scope_reach(&self, text: &str) -> usize
+        ensures within { result ≤ length text.now }
+        ensures none { (n : ℕ) → result < n → n ≤ length text.now → get self.now.scopes (take n text.now) ≡ None }
+    {
+        self.scopes.reach(text)
     }
 
     /// The integrity of the module with this URL.

@@ -1,9 +1,13 @@
-ghost use Rattle.std.specs.Prelude.{◌≡◌, IfOk, OnOk, option_copied};
+ghost use Rattle.std.specs.Prelude.{◌≡◌, ◌<◌, ◌≤◌, ℕ, length, take, IfOk, OnOk, None, option_copied, true};
 ghost use Rattle.std.specs.FinMap.{get, insert, empty};
+ghost use Rattle.map_parse.specs.TextMaps.{IsAscending, IsPlace};
 
 use shared_types::{Memory, Text};
 use std::alloc::Global;
 use std::marker::Model;
+
+/// How many bytes are compared at once.
+const BLOCK: usize = 64;
 
 /// A map from texts. It is one sorted list, so that an entry takes no memory beside its key and its value, and a `&str`
 /// is looked up by halves.
@@ -36,19 +40,111 @@ impl<V> TextMap<V> {
     pub fn get(&self, key: &str) -> Option<&V>
         ensures { option_copied result ≡ get self.now key.now }
     {
+        self.get_near(key, 0).0
+    }
+
+    /// The same with the place of the key among all keys, as they ascend. Where that is the place that is given, it is
+    /// found at once.
+    pub fn get_near(&self, key: &str, near: usize) -> (Option<&V>, usize)
+        ensures { option_copied result.0 ≡ get self.now key.now }
+    {
         let entries = self.entries.as_slice();
-        let at = entries.partition_point(|entry| entry.0.as_str() < key);
+        let at = place_near(entries, key, near);
         match entries.get(at) {
-            None => None,
+            None => (None, at),
             Some(entry) => {
                 if entry.0.as_str() == key {
-                    Some(&entry.1)
+                    (Some(&entry.1), at)
                 } else {
-                    None
+                    (None, at)
                 }
             }
         }
     }
+
+    /// How far keys go with a text: of its fronts that are longer, none is a key. What they have in common with the
+    /// greatest key that isn't above the text is that far.
+    pub fn reach(&self, text: &str) -> usize
+        ensures within { result ≤ length text.now }
+        ensures none { (n : ℕ) → result < n → n ≤ length text.now → get self.now (take n text.now) ≡ None }
+    {
+        let entries = self.entries.as_slice();
+        let behind = entries.partition_point(|entry| entry.0.as_str() <= text);
+        if behind == 0 {
+            return 0;
+        }
+        match entries.get(behind - 1) {
+            None => text.len(),
+            Some(entry) => common_front(text.as_bytes(), entry.0.as_str().as_bytes()),
+        }
+    }
+}
+
+// The place of the first key that isn't below a text.
+fn place_near<V>(entries: &[(Text, V)], text: &str, near: usize) -> usize
+    requires { IsAscending entries.now }
+    ensures { IsPlace text.now entries.now result }
+{
+    if is_place(entries, text, near) {
+        return near;
+    }
+    entries.partition_point(|entry| entry.0.as_str() < text)
+}
+
+// Whether a key that isn't below the text stands there, and behind one that is.
+fn is_place<V>(entries: &[(Text, V)], text: &str, at: usize) -> bool
+    requires { IsAscending entries.now }
+    ensures { result ≡ true → IsPlace text.now entries.now at }
+{
+    match entries.get(at) {
+        None => return false,
+        Some(entry) => {
+            if entry.0.as_str() < text {
+                return false;
+            }
+        }
+    }
+    if at == 0 {
+        return true;
+    }
+    match entries.get(at - 1) {
+        None => false,
+        Some(entry) => entry.0.as_str() < text,
+    }
+}
+
+// How many bytes two texts begin with alike.
+fn common_front(one: &[u8], other: &[u8]) -> usize
+    ensures within { result ≤ length one.now }
+    ensures longest { (n : ℕ) → n ≤ length one.now → take n other.now ≡ take n one.now → n ≤ result }
+{
+    for at in common_blocks(one, other)..one.len() {
+        match other.get(at) {
+            None => return at,
+            Some(byte) => {
+                if *byte != one[at] {
+                    return at;
+                }
+            }
+        }
+    }
+    one.len()
+}
+
+// How many bytes are in the blocks that two texts begin with alike.
+fn common_blocks(one: &[u8], other: &[u8]) -> usize {
+    let mut left = one;
+    let mut right = other;
+    while left.len() >= BLOCK && right.len() >= BLOCK {
+        let (block, more) = left.split_at(BLOCK);
+        let (beside, behind) = right.split_at(BLOCK);
+        if block != beside {
+            break;
+        }
+        left = more;
+        right = behind;
+    }
+    one.len() - left.len()
 }
 
 /// The entries of a map as they are put into it: a later one takes the place of an earlier one with its key.

@@ -1,10 +1,10 @@
 -- How a session ends, by how it is opened and what is replied.
 use Rattle.std.proofs.Common.{◌≡◌, ◌≤◌, ◌++◌, [], ℕ, List, length, true, false, Option, Some, None, Ok, Err, refl, sym, ap, ◌∙◌, subst, inl, inr, arith}
 use Rattle.std.proofs.lemmas.Bool.{false≢true}
-use Rattle.std.proofs.lemmas.List.{append-nil, append_assoc, append_cancel_left, take_all}
+use Rattle.std.proofs.lemmas.List.{append-nil, append_assoc, append_cancel_left}
 use Rattle.std.proofs.lemmas.List.Elements.{All-append, All-weaker}
 use Rattle.std.specs.FinMap.{get}
-use Rattle.std.specs.Prelude.{◌+◌, ◌*◌, All, Contains, IfSome, is_some, option_map, take}
+use Rattle.std.specs.Prelude.{◌+◌, ◌*◌, ◌⊎◌, All, Contains, IfSome, is_some, option_map, take}
 use Rattle.tree_spec.specs.Counts.{Rose}
 use Rattle.tree_spec.specs.Limits.{limit_number}
 use Rattle.tree_spec.specs.LookAskings.{footprint}
@@ -30,10 +30,11 @@ use Rattle.session_input.proofs.ReaderLemmas.{takes_none}
 use Rattle.session_spec.specs.Conversations.{Answers, end_reply, bad_line}
 use Rattle.session_spec.specs.Replies.{accepted_line}
 use Rattle.session_spec.specs.SessionRuns as runs
-use Rattle.session_spec.specs.Openings.{refresh_words, OpensAt, opens, opening_line}
+use Rattle.session_spec.specs.Openings.{refresh_words, OpensAt, CanOpen, opens, opening_line}
 use Rattle.session_spec.specs.SessionLooks.{IsTriedLook, IsSessionLook, of_opening, of_edit, AsksFresh, AsksWithin}
-use Rattle.session_spec.specs.SessionRuns.{SessionComesTo, RepliesTo, unopened, RepliesToAll, IsAwaited, NoFault, IsOpenedText, IsSessionShaped, SessionSays, SessionStops, SessionEnds}
+use Rattle.session_spec.specs.SessionRuns.{SessionComesTo, RepliesTo, unopened, RepliesToAll, NoFault, IsOpenedText, IsFrontShaped, IsAnswerShaped, SessionSays, SessionStops, SessionEnds}
 use Rattle.session_spec.specs.SessionStates.{SessionState, IsGenerated}
+use Rattle.session_spec.specs.TakenInput.{IsAwaited}
 use Rattle.session_spec.specs.SessionSteps.{most_steps, SpendsFor, SessionSpends}
 use Rattle.session_spec.proofs.SessionSpending.{spends_nothing}
 use Rattle.session_spec.specs.Talks.{Standing, begun, Talks, still}
@@ -44,10 +45,10 @@ use Rattle.edit_session.specs.declared.session.Session.{Session}
 use Rattle.session_talk.specs.EditorLooks.{LookState, AsksAndKeeps, AsksSome, AsksKeeping}
 use Rattle.session_talk.specs.Editors.{EditorState, AsksFor}
 use Rattle.session_talk.specs.Talking as talking
-use Rattle.session_talk.specs.Talking.{Now, now_at, IsAwaitedBy, RepliesFront, RepliesAll, IsShaped, IsLastLine, IsQuiet, Says, Stops}
+use Rattle.session_talk.specs.Talking.{Now, now_at, RepliesFront, RepliesAll, IsShaped, IsLastLine, IsQuiet, Says, Stops}
 use Rattle.session_talk.proofs.AskLemmas.{some_then}
 use Rattle.session_talk.proofs.LookLemmas.{for_weaker}
-use Rattle.session_talk.proofs.TalkLemmas.{gives_then, ends_then}
+use Rattle.session_talk.proofs.TalkLemmas.{gives_then, ends_then, nothing_awaited}
 use Rattle.session_run.specs.Editing.{IsToldBy, IsViewOf, look_state}
 use Rattle.session_run.specs.Sessions.{fresh as fresh_reader, RefusedEnds, opened_line, OpenedEnds, wants, cut_off, replies, HoldsSession}
 use Rattle.session_run.proofs.TalkLemmas.{begun_alone}
@@ -136,6 +137,15 @@ within_of told holds taken after fresh =
 
 -- ---- the beginning
 
+abbrev IsTakenOf : Tree → List ℕ → Type 0
+IsTakenOf tree taken = (taken ≡ []) ⊎ CanOpen tree
+
+pub none_front : IsFrontShaped [] []
+none_front = inr (refl, refl)
+
+pub none_awaited : IsAwaited []
+none_awaited = nothing_awaited
+
 abbrev state_on : Tree → Config → SessionState → SessionState
 state_on tree config state = record { tree = tree; config = config; map = state.map; counts = state.counts }
 
@@ -186,7 +196,7 @@ module _ (config : Config) (session : Session) where
   opened_text : (front : List ℕ) → IsOpenedText (opened_line session ++ front)
   opened_text front = record { counts = shown_counts session; replies = front; says = refl }
 
-  last_then : (front : List ℕ) (status : ℕ) (last : List ℕ) → IsLastLine status last → IsSessionShaped status (opened_line session ++ (front ++ last))
+  last_then : (front : List ℕ) (status : ℕ) (last : List ℕ) → IsLastLine status last → IsAnswerShaped status (opened_line session ++ (front ++ last))
   last_then front _ _ talking.at_end =
       runs.ended (opened_line session ++ front) (opened_text front) refl (sym (append_assoc (opened_line session) front end_reply))
   last_then front _ _ (talking.at_line number) =
@@ -194,9 +204,9 @@ module _ (config : Config) (session : Session) where
   last_then front _ _ talking.at_limit =
       runs.too_long (opened_line session ++ front) (opened_text front) refl (sym (append_assoc (opened_line session) front (limit_line Limited)))
 
-  shape_then : (status : ℕ) (text : List ℕ) → IsShaped status text → IsSessionShaped status (opened_line session ++ text)
+  shape_then : (status : ℕ) (text : List ℕ) → IsShaped status text → IsAnswerShaped status (opened_line session ++ text)
   shape_then status text shaped =
-      subst (λ (t : List ℕ). IsSessionShaped status (opened_line session ++ t)) (sym shaped.whole) (last_then shaped.front status shaped.last shaped.is_last)
+      subst (λ (t : List ℕ). IsAnswerShaped status (opened_line session ++ t)) (sym shaped.whole) (last_then shaped.front status shaped.last shaped.is_last)
 
   front_then : (taken text : List ℕ) (state : SessionState) (tree : Tree) → Begins tree state → RepliesFront state taken text → RepliesTo tree taken (opened_line session ++ text)
   front_then taken text state tree begins front =
@@ -209,24 +219,6 @@ module _ (config : Config) (session : Session) where
   comes_then : (input text : List ℕ) (status : ℕ) (state : SessionState) (tree : Tree) → Begins tree state → Answers state input text status → SessionComesTo tree input status (opened_line session ++ text)
   comes_then input text status state tree begins answers =
       subst (λ (line : List ℕ). SessionComesTo tree input status (line ++ text)) begins.line (runs.replied state status text begins.opens_at answers)
-
-  allowed_talks : (state : SessionState) (front out : List ℕ) (later : Standing) → length front ≤ limit_number Limited → Talks (begun state front) out later
-      → Talks (begun state (take (limit_number Limited) front)) out later
-  allowed_talks state front out later few talks =
-      subst (λ (bytes : List ℕ). Talks (begun state bytes) out later) (sym (take_all (limit_number Limited) front few)) talks
-
-  awaited_then : (taken : List ℕ) (state : SessionState) (tree : Tree) → Begins tree state → IsAwaitedBy state taken → IsAwaited tree taken
-  awaited_then taken state tree begins (inl none) = inl none
-  awaited_then taken state tree begins (inr last) =
-      inr (record {
-        front = last.front;
-        last = last.last;
-        whole = last.whole;
-        few = last.few;
-        short = last.short;
-        text = opened_line session ++ last.out;
-        replied = all_then last.front last.out state tree begins (record { later = last.later; talks = allowed_talks state last.front last.out last.later last.few last.talks; waits = last.waits });
-      })
 
   module _ (holds : Option Tree) (told : Option SessionState) (begun : IsBegun told holds) (before mid after : FolderState) (same_tree : before.holds ≡ holds) (quiet_before : mid.look_faults ≡ before.look_faults)
       (view last : EditorState) (view_told : view.told ≡ told) (view_faults : view.faults ≡ mid.look_faults) (last_faults : last.faults ≡ after.look_faults) (source later : SourceState) (middle : SinkState) (taken : List ℕ) where
@@ -250,25 +242,25 @@ module _ (config : Config) (session : Session) where
 
     says_then : (status : ℕ) (text : List ℕ) → Says first last later taken status text → SessionSays before after source later taken status (opened_line session ++ text)
     says_then status text (talking.outcome shaped quiet here whole) =
-        runs.outcome (shape_then status text shaped) (no_fault quiet) (up (comes_then taken text status) here)
+        runs.outcome (inl (shape_then status text shaped)) (no_fault quiet) (up (comes_then taken text status) here)
         (up (λ state tree begins answers. if_some source.left (λ input is. comes_then input text status state tree begins is) answers) whole)
     says_then status text (talking.memory front quiet told is_status is_text) =
-        runs.memory (opened_line session ++ front) (no_fault quiet) (up (front_then taken front) told) is_status (with_line text front memory_line is_text)
+        runs.memory (opened_line session ++ front) (inl (opened_text front)) (no_fault quiet) (up (front_then taken front) told) is_status (with_line text front memory_line is_text)
     says_then status text (talking.look_fault front rose quiet told is_status is_text) =
-        runs.look_fault (opened_line session ++ front) (rose_then rose) quiet (up (front_then taken front) told) is_status (with_line text front read_fault_line is_text)
-    says_then status text (talking.take_fault front quiet rose told is_status is_text) =
-        runs.take_fault (opened_line session ++ front) (same_faults quiet) rose (up (all_then taken front) told) is_status (with_line text front read_fault_line is_text)
+        runs.look_fault (opened_line session ++ front) (inl (opened_text front)) (rose_then rose) quiet (up (front_then taken front) told) is_status (with_line text front read_fault_line is_text)
+    says_then status text (talking.take_fault front left_open quiet rose told is_status is_text) =
+        runs.take_fault (opened_line session ++ front) (opened_text front) left_open (same_faults quiet) rose (up (all_then taken front) told) is_status (with_line text front read_fault_line is_text)
 
     module _ (out gone : SinkState) (result : ℕ) (got : middle.got ≡ option_map (λ front. front ++ opened_line session) out.got) (quiet_out : middle.faults ≡ out.faults) where
       stops_then : Stops first last later gone taken result → SessionStops before after source later taken out gone result
       stops_then (talking.said status text says is) =
           runs.said status (opened_line session ++ text) (says_then status text says) (ends_then out middle gone (opened_line session) text status result got quiet_out is)
       stops_then (talking.cut_off text quiet told is_status gives rose) =
-          runs.cut_off (opened_line session ++ text) (no_fault quiet) (up (front_then taken text) told) is_status (gives_then out.got middle.got gone.got (opened_line session) text got gives)
+          runs.cut_off (opened_line session ++ text) (opened_text text) (no_fault quiet) (up (front_then taken text) told) is_status (gives_then out.got middle.got gone.got (opened_line session) text got gives)
           (subst (λ (n : ℕ). Rose n gone.faults) quiet_out rose)
 
-    awaited_with : IfSome view.told (λ state. IsAwaitedBy state taken) → IfSome before.holds (λ tree. IsAwaited tree taken)
-    awaited_with awaited = up (awaited_then taken) awaited
+    taken_then : IfSome before.holds (λ tree. IsTakenOf tree taken)
+    taken_then = up {P = λ state. Unit {0}} (λ state tree begins any. inr (record { state = state; opens_at = begins.opens_at })) (if_all view.told (λ state. tt))
 
 -- ---- the steps
 
@@ -290,8 +282,8 @@ module _ (spent mid : ℕ) (few : mid ≤ spent + most_steps) where
 
 -- ---- a session that is opened
 
-none_awaited : (told : Option Tree) → IfSome told (λ tree. IsAwaited tree [])
-none_awaited told = if_all told (λ tree. inl refl)
+nothing_taken : (told : Option Tree) → IfSome told (λ tree. IsTakenOf tree [])
+nothing_taken told = if_all told (λ tree. inl refl)
 
 module _ (config : Config) (before mid : FolderState) (session : Session) (opening : OpensSession config before (Ok session) mid) (is_config : IsConfigAt refresh_words Refresh config before) (spent spent_mid : ℕ) (few : spent_mid ≤ spent + most_steps) where
   abbrev told_first : Option SessionState
@@ -322,6 +314,9 @@ module _ (config : Config) (before mid : FolderState) (session : Session) (openi
     edits_ask : IfSome told_first EditsTell → IfSome before.holds (EditsAsk before.holds taken mid after)
     edits_ask looks = lifted config session told_first before.holds is_begun told_looks looks
 
+  line_alone : IsOpenedText (opened_line session)
+  line_alone = record { counts = shown_counts session; replies = []; says = sym (append-nil (opened_line session)) }
+
   no_fault_yet : (source : SourceState) → NoFault before mid source source
   no_fault_yet source = (quiet_opening config before mid session opening, refl)
 
@@ -346,7 +341,8 @@ module _ (config : Config) (before mid : FolderState) (session : Session) (openi
         taken = [];
         takes = takes_none source;
         few = omega arith;
-        awaited = none_awaited before.holds;
+        awaited = none_awaited;
+        opened = nothing_taken before.holds;
         asked = within_of before.asked before.holds [] mid (fresh_first []);
         steps = spends_none spent spent_mid few;
         stops = stops;
@@ -365,9 +361,9 @@ module _ (config : Config) (before mid : FolderState) (session : Session) (openi
     pub opened_ends : (after : FolderState) (later : SourceState) (spent_after : ℕ) → OpenedEnds session mid after source later out gone result spent_mid spent_after → HoldsSession before after source later out gone result spent spent_after
     opened_ends after later spent_after (wants same taken rested is) =
         as_left after later spent_after same taken rested
-        (runs.said memory_status memory_line (runs.memory [] (no_fault_yet source) (if_all before.holds (λ tree. unopened)) refl refl) is)
+        (runs.said memory_status memory_line (runs.memory [] none_front (no_fault_yet source) (if_all before.holds (λ tree. unopened)) refl refl) is)
     opened_ends after later spent_after (cut_off same taken rested is_status gives rose) =
-        as_left after later spent_after same taken rested (runs.cut_off (opened_line session) (no_fault_yet source) front_line is_status gives rose)
+        as_left after later spent_after same taken rested (runs.cut_off (opened_line session) line_alone (no_fault_yet source) front_line is_status gives rose)
     opened_ends after later spent_after (replies middle closed got quiet talks asks) =
         let seen = talks view_first view_is in
         let done = seen.holds in
@@ -383,7 +379,8 @@ module _ (config : Config) (before mid : FolderState) (session : Session) (openi
             taken = done.taken;
             takes = done.takes;
             few = done.few;
-            awaited = awaited_with config session before.holds told_first is_begun before mid after refl (quiet_opening config before mid session opening) view_first seen.at refl refl seen.is.faults source later middle done.taken done.awaited;
+            awaited = done.awaited;
+            opened = taken_then config session before.holds told_first is_begun before mid after refl (quiet_opening config before mid session opening) view_first seen.at refl refl seen.is.faults source later middle done.taken;
             asked = within_of before.asked before.holds done.taken after fresh;
             steps = spends_more spent spent_mid few spent_after seen.at.spent seen.is.spent (take (limit_number Limited) done.taken) done.steps;
             stops = stops_then config session before.holds told_first is_begun before mid after refl (quiet_opening config before mid session opening) view_first seen.at refl refl seen.is.faults source later middle done.taken out gone result got quiet done.stops;
@@ -405,7 +402,8 @@ module _ (config : Config) (before mid : FolderState) (source : SourceState) (ou
       taken = [];
       takes = takes_none source;
       few = omega arith;
-      awaited = none_awaited before.holds;
+      awaited = none_awaited;
+      opened = nothing_taken before.holds;
       asked = within_of before.asked before.holds [] mid (fresh_opening config before mid opening.asked opening.footprint is_config.told []);
       steps = spends_none spent spent_mid few;
       stops = stopped why opening is;
@@ -418,11 +416,11 @@ module _ (config : Config) (before mid : FolderState) (source : SourceState) (ou
       stopped (stop.Refused why) opening (inl is) =
           let refused : IfSome before.holds (λ tree. RefusesRun refresh_words tree why) = if_two before.holds (λ tree configured refuses. by_tree Refresh config why configured refuses) is_config.told opening.refused in
           runs.said (status_of why) (line_of why)
-          (runs.outcome (runs.unopened why (can.by_tree Refresh config why is_config.can opening.kind) refl refl) (opening.looks.quiet (λ e. cc), refl) (if_some before.holds (λ tree because. runs.refused why because) refused)
+          (runs.outcome (inr (refl, record { why = why; can = can.by_tree Refresh config why is_config.can opening.kind; ends = refl; says = refl })) (opening.looks.quiet (λ e. cc), refl) (if_some before.holds (λ tree because. runs.refused why because) refused)
           (if_some before.holds (λ tree because. if_all source.left (λ input. runs.refused why because)) refused)) is
       stopped (stop.Refused why) opening (inr is) =
-          runs.said memory_status memory_line (runs.memory [] (opening.looks.quiet (λ e. cc), refl) (if_all before.holds (λ tree. unopened)) refl refl) is
+          runs.said memory_status memory_line (runs.memory [] none_front (opening.looks.quiet (λ e. cc), refl) (if_all before.holds (λ tree. unopened)) refl refl) is
       stopped stop.ReadFault opening is =
-          runs.said read_fault_status read_fault_line (runs.look_fault [] (opening.looks.cause refl) refl (if_all before.holds (λ tree. unopened)) refl refl) is
+          runs.said read_fault_status read_fault_line (runs.look_fault [] none_front (opening.looks.cause refl) refl (if_all before.holds (λ tree. unopened)) refl refl) is
       stopped stop.Memory opening is =
-          runs.said memory_status memory_line (runs.memory [] (opening.looks.quiet (λ e. cc), refl) (if_all before.holds (λ tree. unopened)) refl refl) is
+          runs.said memory_status memory_line (runs.memory [] none_front (opening.looks.quiet (λ e. cc), refl) (if_all before.holds (λ tree. unopened)) refl refl) is

@@ -1,5 +1,5 @@
 -- Replies to the lines of an input, from the first on.
-use Rattle.std.proofs.Common.{◌≡◌, ◌++◌, [], ◌∷◌, ℕ, List, None, Ok, Err, refl, ap, ◌∙◌, subst, inl, arith}
+use Rattle.std.proofs.Common.{◌≡◌, ◌++◌, [], ◌∷◌, ℕ, List, None, Ok, Err, refl, ap, ◌∙◌, subst, arith}
 use Rattle.std.specs.Prelude.{option_map, take}
 use Rattle.tree_spec.specs.Limits.{limit_number}
 use Rattle.tree_spec.specs.States.{FolderState, SourceState, SinkState, IsGiven}
@@ -21,6 +21,7 @@ use Rattle.session_talk.specs.Editors.{EditorState, Seen}
 use Rattle.session_talk.specs.Talking as talking
 use Rattle.session_talk.specs.Talking.{now_at, Converses}
 use Rattle.session_talk.proofs.LookLemmas.{nothing_for}
+use Rattle.session_talk.proofs.TalkLemmas.{nothing_awaited}
 use Rattle.session_run.specs.Editing.{IsViewOf, look_state, LooksSome}
 use Rattle.session_run.specs.Sessions.{fresh, TalksOn, opened_line, OpenedEnds, cut_off, replies}
 
@@ -71,7 +72,7 @@ wants_reader before source out gone result is = record {
   taken = [];
   takes = takes_none source;
   few = omega arith;
-  awaited = if_all before.told (λ state. inl refl);
+  awaited = nothing_awaited;
   looks = if_all before.told (λ state. nothing_for (IsTriedLook state (take (limit_number Limited) [])) before.asked before.asked refl);
   steps = spends_nothing (take (limit_number Limited) []) before.spent before.spent (omega arith);
   stops = talking.said memory_status memory_line

@@ -15,7 +15,7 @@ use Rattle.session_spec.specs.SessionLines as lines
 use Rattle.session_spec.specs.SessionLines.{malformed, unfinished}
 use Rattle.session_spec.specs.SessionStates.{SessionState}
 use Rattle.session_spec.specs.SessionSteps.{SpendsFor}
-use Rattle.session_spec.specs.TakenInput.{IsFront, Takes, IsSpent, IsNeeded}
+use Rattle.session_spec.specs.TakenInput.{IsFront, Takes, IsSpent, IsNeeded, IsAwaited}
 use Rattle.session_spec.proofs.SessionSpending.{edits_on, spends_allowed}
 use Rattle.session_spec.proofs.SomeAnswer.{read_shorter}
 use Rattle.session_spec.proofs.Standings.{answers_refused, answers_short, answers_long}
@@ -26,9 +26,9 @@ use Rattle.session_input.specs.declared.reading.Reading.TheVariants as reading
 use Rattle.session_input.specs.Readers.{Waiting, order_of, IsWithin, IsBeyond, IsRead, ReadsNext}
 use Rattle.session_input.proofs.ReaderLemmas.{takes_then}
 use Rattle.session_talk.specs.Editors.{EditorState}
-use Rattle.session_talk.specs.Talking.{Now, now_at, StandsAt, OrderedAt, IsAwaitedBy, Looks, GoesOn, IsOrdered, RepliesFront, RepliesAll, at_line, at_limit, IsQuiet, Converses, TellsEnd}
+use Rattle.session_talk.specs.Talking.{Now, now_at, StandsAt, OrderedAt, Looks, GoesOn, IsOrdered, RepliesFront, RepliesAll, at_line, at_limit, IsQuiet, Converses, TellsEnd}
 use Rattle.session_talk.proofs.LookLemmas.{looks_with, looks_within}
-use Rattle.session_talk.proofs.TalkLemmas.{if_told, two_told, replies_with, replies_all, ends_memory, ends_take_fault, ends_outcome, answers_input, answers_taken, talks_with, turns_with, ordered_with, awaited_with}
+use Rattle.session_talk.proofs.TalkLemmas.{if_told, replies_with, replies_all, ends_memory, ends_take_fault, ends_outcome, answers_input, answers_taken, talks_with, turns_with, ordered_with, open_with, awaited_with}
 
 answers_spent : (left last : Option (List ℕ)) (taken text : List ℕ) (status : ℕ) (state : SessionState) → Answers state taken text status → IfSome left (λ input. IsFront taken input last) → IfSome last (λ rest. rest ≡ [])
     → IfSome left (λ input. Answers state input text status)
@@ -55,10 +55,8 @@ module _ (first : Now) (editor : EditorState) (before : Waiting) (held : Option 
   most : length goes.taken + length more ≤ limit_number Session + 1
   most = let limit = goes.limit in let room = goes.room in omega (arith, limit, room, few_more)
 
-  awaited_all : IfSome first.editor.told (λ state. IsAwaitedBy state all)
-  awaited_all =
-      two_told first.editor.told Standing (λ state. IsAwaitedBy state goes.taken) (λ state. IsAwaitedBy state all)
-      (λ state at awaited. awaited_with state goes.taken goes.text more here at most needed awaited) goes.stands goes.awaited
+  awaited_all : IsAwaited all
+  awaited_all = awaited_with goes.taken more before.unread goes.edits held goes.made most needed goes.awaited
 
   long_all : length all ≡ length goes.taken + length more
   long_all = length-append goes.taken more
@@ -96,7 +94,8 @@ module _ (first : Now) (editor : EditorState) (before : Waiting) (held : Option 
   pub fault_read : (after : SinkState) (status : ℕ) → IsWithin before more unfinished → Rose source.faults later.faults → Ends read_fault_status read_fault_line out after status
       → Converses first editor later after status
   fault_read after status within rose is =
-      ends_take_fault first editor later all takes_all awaited_all few_all looks_all spends_all out after goes.text goes.said goes.quiet_out status goes.quiet_editor (subst (λ (n : ℕ). Rose n later.faults) goes.quiet_source rose)
+      ends_take_fault first editor later all takes_all awaited_all few_all looks_all spends_all out after goes.text goes.said goes.quiet_out status (open_with goes.taken more before.unread goes.edits held goes.made (few unfinished within) within.is)
+      goes.quiet_editor (subst (λ (n : ℕ). Rose n later.faults) goes.quiet_source rose)
       (if_told first.editor.told Standing (λ state. RepliesAll state all goes.text)
       (λ state at. replies_all state goes.text (with_more more at.at) all (few unfinished within) (talks_with state goes.taken goes.text more here at)
       (turns_with state goes.taken goes.text more here at unfinished within.is)) goes.stands) is

@@ -19,14 +19,14 @@ use Rattle.session_spec.specs.SessionLooks.{IsTriedLook}
 use Rattle.session_spec.specs.SessionStates.{SessionState}
 use Rattle.session_spec.specs.SessionSteps.{MakesEdits, SpendsFor, most_steps}
 use Rattle.session_spec.specs.SessionSteps as spending
-use Rattle.session_spec.specs.TakenInput.{IsFront, Takes, IsNeeded}
+use Rattle.session_spec.specs.TakenInput.{IsFront, Takes, IsNeeded, LeavesOpen, IsAwaited}
 use Rattle.session_spec.specs.Talks.{Standing, begun, behind, turn_of, Talks, still, edits, collects, shows_it}
-use Rattle.session_spec.proofs.SessionSpending.{few_by_none}
+use Rattle.session_spec.proofs.SessionSpending.{few_by_none, edits_on}
 use Rattle.session_spec.proofs.Talking.{with_more, talks_on, talks_then, allowed_front}
 use Rattle.session_input.specs.Readers.{Waiting}
 use Rattle.session_input.proofs.ReaderLemmas.{takes_none}
 use Rattle.session_talk.specs.Editors.{EditorState, AsksFor, IsReplied}
-use Rattle.session_talk.specs.Talking.{Now, now_at, StandsAt, OrderedAt, IsAwaitedBy, Looks, GoesOn}
+use Rattle.session_talk.specs.Talking.{Now, now_at, StandsAt, OrderedAt, Looks, GoesOn}
 use Rattle.session_talk.specs.Talking.{RepliesFront, RepliesAll, IsLastLine, IsQuiet, Says, outcome, memory, look_fault, take_fault, said, cut_off, Converses}
 use Rattle.session_talk.specs.Talking.{CutOff}
 use Rattle.session_talk.proofs.LookLemmas.{nothing_for}
@@ -63,7 +63,7 @@ ends_then first now after text line status result e quiet (ending.output_fault i
 
 -- ---- ends
 
-module _ (first : Now) (editor : EditorState) (source : SourceState) (taken : List ℕ) (takes : Takes first.source taken source) (awaited : IfSome first.editor.told (λ state. IsAwaitedBy state taken)) (few : length taken ≤ limit_number Session + 1)
+module _ (first : Now) (editor : EditorState) (source : SourceState) (taken : List ℕ) (takes : Takes first.source taken source) (awaited : IsAwaited taken) (few : length taken ≤ limit_number Session + 1)
     (looks : Looks first (take (limit_number Session) taken) editor.asked) (spends : SpendsFor (take (limit_number Session) taken) first.editor.spent editor.spent) where
   module _ (out after : SinkState) (text : List ℕ) (got : out.got ≡ option_map (λ front. front ++ text) first.out.got) (quiet_out : out.faults ≡ first.out.faults) where
     ends_as : (line : List ℕ) (status result : ℕ) → Says first editor source taken status (text ++ line) → Ends status line out after result → Converses first editor source after result
@@ -78,9 +78,9 @@ module _ (first : Now) (editor : EditorState) (source : SourceState) (taken : Li
         → Ends read_fault_status read_fault_line out after result → Converses first editor source after result
     ends_look_fault result rose quiet front is = ends_as read_fault_line read_fault_status result (look_fault text rose quiet front refl refl) is
 
-    pub ends_take_fault : (result : ℕ) → editor.faults ≡ first.editor.faults → Rose first.source.faults source.faults → IfSome first.editor.told (λ state. RepliesAll state taken text)
+    pub ends_take_fault : (result : ℕ) → LeavesOpen taken → editor.faults ≡ first.editor.faults → Rose first.source.faults source.faults → IfSome first.editor.told (λ state. RepliesAll state taken text)
         → Ends read_fault_status read_fault_line out after result → Converses first editor source after result
-    ends_take_fault result quiet rose all is = ends_as read_fault_line read_fault_status result (take_fault text quiet rose all refl refl) is
+    ends_take_fault result left_open quiet rose all is = ends_as read_fault_line read_fault_status result (take_fault text left_open quiet rose all refl refl) is
 
     pub ends_outcome : (line : List ℕ) (status result : ℕ) → IsLastLine status line → IsQuiet first editor source → IfSome first.editor.told (λ state. Answers state taken (text ++ line) status)
         → IfSome first.editor.told (λ state. IfSome first.source.left (λ input. Answers state input (text ++ line) status)) → Ends status line out after result → Converses first editor source after result
@@ -185,6 +185,18 @@ module _ (state : SessionState) (taken text : List ℕ) (number : ℕ) (order : 
 
 -- ---- a line is read
 
+-- where no line is whole in what waits
+pub open_with : (taken more unread : List ℕ) (edits : ℕ) (held : Option (List Change)) → MakesEdits taken edits held unread → length (taken ++ more) ≤ limit_number Session → read_line (unread ++ more) ≡ unfinished
+    → LeavesOpen (taken ++ more)
+open_with taken more unread edits held made few needed = record {
+  few = few;
+  edits = edits;
+  held = held;
+  behind = unread ++ more;
+  made = edits_on taken more edits held unread made;
+  waits = ap (turn held) needed;
+}
+
 module _ (state : SessionState) (front text more : List ℕ) (now : Now) (stands : StandsAt state front text now) where
   pub standing_with : Standing
   standing_with = with_more more stands.at
@@ -213,25 +225,21 @@ module _ (state : SessionState) (front text more : List ℕ) (now : Now) (stands
     input = unread;
   }
 
-pub awaited_with : (state : SessionState) (front text more : List ℕ) (now : Now) → StandsAt state front text now → length front + length more ≤ limit_number Session + 1 → IsNeeded now.waiting.unread more
-    → IsAwaitedBy state front → IsAwaitedBy state (front ++ more)
-awaited_with state front text more now stands most (inl none) awaited =
-    subst (λ (bytes : List ℕ). IsAwaitedBy state bytes) (sym (ap (λ (m : List ℕ). front ++ m) none ∙ append-nil front)) awaited
-awaited_with state front text more now stands most (inr last) awaited =
+pub awaited_with : (taken more unread : List ℕ) (edits : ℕ) (held : Option (List Change)) → MakesEdits taken edits held unread → length taken + length more ≤ limit_number Session + 1 → IsNeeded unread more
+    → IsAwaited taken → IsAwaited (taken ++ more)
+awaited_with taken more unread edits held made most (inl none) awaited =
+    subst (λ (bytes : List ℕ). IsAwaited bytes) (sym (ap (λ (m : List ℕ). taken ++ m) none ∙ append-nil taken)) awaited
+awaited_with taken more unread edits held made most (inr last) awaited =
     let long = ap length last.whole ∙ length-append last.front last.last in
-    let longer = length-append front last.front in
+    let longer = length-append taken last.front in
     let some = last.some in
-    inr (record {
-      front = front ++ last.front;
+    record {
+      front = taken ++ last.front;
       last = last.last;
-      whole = ap (λ (m : List ℕ). front ++ m) last.whole ∙ sym (append_assoc front last.front last.last);
-      few = omega (arith, most, long, longer, some);
+      whole = ap (λ (m : List ℕ). taken ++ m) last.whole ∙ sym (append_assoc taken last.front last.last);
       short = last.short;
-      out = text;
-      later = with_more last.front stands.at;
-      talks = talks_with state front text last.front now stands;
-      waits = turns_with state front text last.front now stands unfinished last.needed;
-    })
+      left_open = open_with taken last.front unread edits held made (omega (arith, most, long, longer, some)) last.needed;
+    }
 
 -- ---- the beginning
 
@@ -245,9 +253,14 @@ stands_begun None faults asked spent waiting source out unread number = tt
 stands_begun (Some state) faults asked spent waiting source out unread number =
     record { at = begun state []; talks = still (begun state []); told = refl; number = number; held = refl; input = unread }
 
-none_awaited : (told : Option SessionState) → IfSome told (λ state. IsAwaitedBy state [])
-none_awaited None = tt
-none_awaited (Some state) = inl refl
+pub nothing_awaited : IsAwaited []
+nothing_awaited = record {
+  front = [];
+  last = [];
+  whole = refl;
+  short = omega arith;
+  left_open = record { few = omega arith; edits = 0; held = None; behind = []; made = spending.begun; waits = refl };
+}
 
 none_looked : (told : Option SessionState) (asked : Option (List (List ℕ))) → IfSome told (λ state. IfSome asked (λ old. AsksFor (IsTriedLook state []) old asked))
 none_looked None asked = tt
@@ -260,7 +273,7 @@ goes_begun editor waiting source out unread number room = record {
   takes = takes_none source;
   limit = room;
   room = omega arith;
-  awaited = none_awaited editor.told;
+  awaited = nothing_awaited;
   text = [];
   said = nothing_said out.got;
   stands = stands_begun editor.told editor.faults editor.asked editor.spent waiting source out unread number;

@@ -2,8 +2,6 @@
 --     Now                             all that a turn changes: who edits, what waits, the changes since a `begin`, the
 --                                     source and the sink
 --     StandsAt state taken text now   of these bytes all that doesn't wait is read, and this text is replied
---     IsAwaitedBy state taken         but for the last of these bytes, as many as a take may ask for, they don't end
---                                     the session
 --     Looks first input asked         the folder was asked for paths alone at which edits look to which this input
 --                                     comes
 --     MadeAt taken edits now          the lines of these bytes that don't wait make so many edits
@@ -39,7 +37,7 @@ use Rattle.session_spec.specs.SessionLines.{Order, Rest, reads, read_line}
 use Rattle.session_spec.specs.SessionLooks.{IsTriedLook}
 use Rattle.session_spec.specs.SessionStates.{SessionState}
 use Rattle.session_spec.specs.SessionSteps.{MakesEdits, SpendsFor, most_steps}
-use Rattle.session_spec.specs.TakenInput.{Takes, taken_at_once}
+use Rattle.session_spec.specs.TakenInput.{Takes, LeavesOpen, IsAwaited}
 use Rattle.session_spec.specs.Talks.{Standing, begun, turn_of, Talks}
 use Rattle.session_input.specs.Readers.{Waiting}
 use Rattle.session_talk.specs.Editors.{EditorState, AsksFor, EditsTold, EditsLook, Shows}
@@ -77,20 +75,6 @@ pub record OrderedAt (number : ℕ) (order : Order) (state : SessionState) (take
   pub number_is : now.waiting.number ≡ at.number + rest.lines
   pub input : now.waiting.unread ≡ rest.behind
 
-pub record StandsBeforeLastOf (state : SessionState) (taken : List ℕ) : Type 0 where
-  pub front : List ℕ
-  pub last : List ℕ
-  pub whole : taken ≡ front ++ last
-  pub few : length front ≤ limit_number Session
-  pub short : length last ≤ taken_at_once
-  pub out : List ℕ
-  pub later : Standing
-  pub talks : Talks (begun state front) out later
-  pub waits : turn_of later ≡ stops
-
-abbrev pub IsAwaitedBy : SessionState → List ℕ → Type 0
-IsAwaitedBy state taken = (taken ≡ []) ⊎ StandsBeforeLastOf state taken
-
 abbrev pub Looks : Now → List ℕ → Option (List (List ℕ)) → Type 0
 Looks first input asked =
     IfSome first.editor.told (λ state. IfSome first.editor.asked (λ old. AsksFor (IsTriedLook state input) old asked))
@@ -111,7 +95,7 @@ pub record Goes (Stands : SessionState → List ℕ → List ℕ → Type 0) (Ma
   pub takes : Takes first.source taken now.source
   pub limit : first.waiting.room ≡ limit_number Session
   pub room : first.waiting.room ≡ length taken + now.waiting.room
-  pub awaited : IfSome first.editor.told (λ state. IsAwaitedBy state taken)
+  pub awaited : IsAwaited taken
   pub text : List ℕ
   pub said : now.out.got ≡ option_map (λ front. front ++ text) first.out.got
   pub stands : IfSome first.editor.told (λ state. Stands state taken text)
@@ -176,8 +160,8 @@ pub data Says (first : Now) (editor : EditorState) (source : SourceState) (taken
       → IfSome first.editor.told (λ state. RepliesFront state taken front)
       → status ≡ read_fault_status → text ≡ front ++ read_fault_line → Says first editor source taken status text
   take_fault :
-      (front : List ℕ) → editor.faults ≡ first.editor.faults → Rose first.source.faults source.faults
-      → IfSome first.editor.told (λ state. RepliesAll state taken front)
+      (front : List ℕ) → LeavesOpen taken → editor.faults ≡ first.editor.faults
+      → Rose first.source.faults source.faults → IfSome first.editor.told (λ state. RepliesAll state taken front)
       → status ≡ read_fault_status → text ≡ front ++ read_fault_line → Says first editor source taken status text
 
 pub data Stops (first : Now) (editor : EditorState) (source : SourceState) (out : SinkState) (taken : List ℕ)
@@ -196,7 +180,7 @@ pub record Converses (first : Now) (editor : EditorState) (source : SourceState)
   pub taken : List ℕ
   pub takes : Takes first.source taken source
   pub few : length taken ≤ limit_number Session + 1
-  pub awaited : IfSome first.editor.told (λ state. IsAwaitedBy state taken)
+  pub awaited : IsAwaited taken
   pub looks : Looks first (take (limit_number Session) taken) editor.asked
   pub steps : SpendsFor (take (limit_number Session) taken) first.editor.spent editor.spent
   pub stops : Stops first editor source out taken result

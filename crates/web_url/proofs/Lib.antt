@@ -5,3 +5,4 @@ pub mod NameLemmas
 pub mod AskLemmas
 pub mod PathLemmas
 pub mod SuffixLemmas
+pub mod PlainLemmas

@@ -42,7 +42,7 @@ read_filter ((b ∷ name) ∷ names) =
     let more = read_filter names in
     rw (other, more) refl
 
-or_root_is : (names : List (List ℕ)) → (if length (flat_map read_segment names) == 0 then codes "/" else flat_map read_segment names) ≡ path_of_segments names
+pub or_root_is : (names : List (List ℕ)) → (if length (flat_map read_segment names) == 0 then codes "/" else flat_map read_segment names) ≡ path_of_segments names
 or_root_is [] = refl
 or_root_is (name ∷ names) =
     let read = flat_map read_segment (name ∷ names) in

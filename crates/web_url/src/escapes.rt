@@ -1,5 +1,6 @@
 //! Percent-escapes of paths, and URLs without their suffixes.
-ghost use Rattle.std.specs.Prelude.{◌≡◌, ◌<◌, ◌≤◌, ◌++◌, All, OnOk, IfOk, string_bytes};
+ghost use Rattle.std.specs.Prelude.{◌≡◌, ◌<◌, ◌≤◌, ◌++◌, ◌==◌, All, OnOk, IfOk, string_bytes};
+ghost use Rattle.std.specs.List.{list_any};
 ghost use Rattle.std.specs.Prelude.{IsAscii, flat_map, length, take, bytes_eq};
 ghost use Rattle.url.specs.Input.{lowercase};
 ghost use Rattle.url_spec.specs.WebNames.{escaped};
@@ -70,6 +71,13 @@ pub fn is_suffix_mark(byte: u8) -> bool
     ensures { result ≡ is_suffix_mark byte }
 {
     byte == b'?' || byte == b'#'
+}
+
+/// Whether a `%` stands in a text.
+pub fn holds_percent(text: &str) -> bool
+    ensures { result ≡ list_any (λ b. b == 37) text.now }
+{
+    text.as_bytes().contains(&b'%')
 }
 
 /// Whether a percent-escape, given in lower case, stands in a text.

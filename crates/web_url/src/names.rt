@@ -8,7 +8,7 @@ ghost use Rattle.url_spec.specs.ServedPaths.{holds_escape, read_segment, segment
 ghost use Rattle.web_url.specs.Serving.{SpellsBelow, IsUnservable};
 
 use crate::base::Base;
-use crate::escapes::{holds_escape, push_escaped, split_suffix, unescape_segments};
+use crate::escapes::{holds_escape, holds_percent, push_escaped, split_suffix, unescape_segments};
 use crate::paths::path_of;
 use crate::suffix::Suffix;
 use crate::web_url::WebUrl;
@@ -89,9 +89,23 @@ fn below_root(path: &Path) -> &str
 fn serves(alloc: Global, base: &Base, url: &WebUrl, path: &Path) -> Result<bool, Memory>
     ensures { IfOk result (λ yes. IsTrue yes ↔ IsServed base.now url.now path.now) }
 {
+    let text = path.as_str();
+    if spells_itself(base, url, path) {
+        return Ok(true);
+    }
     match spelled_below(alloc, base, url)? {
         None => Ok(false),
-        Some(bytes) => Ok(bytes.as_slice() == path.as_str().as_bytes()),
+        Some(bytes) => Ok(bytes.as_slice() == text.as_bytes()),
+    }
+}
+
+// Whether a URL has the path itself below a base, without an escape.
+fn spells_itself(base: &Base, url: &WebUrl, path: &Path) -> bool
+    ensures { IsTrue result → SpellsBelow base.now url.now path.now }
+{
+    match below(base, url) {
+        None => false,
+        Some(rest) => !holds_percent(rest) && rest == below_root(path),
     }
 }
 
@@ -100,13 +114,21 @@ fn spelled_below(alloc: Global, base: &Base, url: &WebUrl) -> Result<Option<Vec<
     ensures { IfOk result (λ found. MatchOption found ((bytes : List ℕ) → SpellsBelow base.now url.now bytes → ⊥)
         (λ bytes. SpellsBelow base.now url.now bytes.items)) }
 {
-    let Some(rest) = after_front(split_suffix(url.as_str()).0, base.as_str()) else {
+    let Some(rest) = below(base, url) else {
         return Ok(None);
     };
     if holds_escape(rest.as_bytes(), b"%2f") {
         return Ok(None);
     }
     Ok(Some(unescape_segments(alloc, rest)?))
+}
+
+// What a URL has behind a base and before its suffix.
+fn below<'a>(base: &Base, url: &'a WebUrl) -> Option<&'a str>
+    ensures { MatchOption result ((rest : List ℕ) → before_suffix url.now ≡ base.now ++ rest → ⊥)
+        (λ rest. before_suffix url.now ≡ base.now ++ rest.now) }
+{
+    after_front(split_suffix(url.as_str()).0, base.as_str())
 }
 
 #[tactic(auto, using(crate::proofs::NameLemmas::fronts))]

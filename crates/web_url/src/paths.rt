@@ -5,7 +5,7 @@ ghost use Rattle.tree_spec.specs.Paths.{IsPath};
 ghost use Rattle.url_spec.specs.ServedPaths.{read_segment};
 ghost use Rattle.url_spec.specs.FileUrls.{spelled_path, escapes_separator, NamesPath};
 
-use crate::escapes::{holds_escape, push_segment};
+use crate::escapes::{holds_escape, holds_percent, push_segment};
 use shared_types::Memory;
 use std::alloc::{AllocError, Global};
 use tree_model::{Path, PathFault};
@@ -30,6 +30,21 @@ pub fn named_path(alloc: Global, url_path: &str) -> Result<Option<Path>, Memory>
     ensures { IfOk result (λ found. MatchOption found ((path : List ℕ) → NamesPath url_path.now path → ⊥)
         (NamesPath url_path.now)) }
 {
+    if holds_percent(url_path) {
+        return path_in_segments(alloc, url_path);
+    }
+    match Path::parse(alloc, url_path) {
+        Ok(path) => Ok(Some(path)),
+        Err(PathFault::BadPath) => path_in_segments(alloc, url_path),
+        Err(PathFault::Memory) => Err(AllocError),
+    }
+}
+
+// The same, segment by segment.
+fn path_in_segments(alloc: Global, url_path: &str) -> Result<Option<Path>, Memory>
+    ensures { IfOk result (λ found. MatchOption found ((path : List ℕ) → NamesPath url_path.now path → ⊥)
+        (NamesPath url_path.now)) }
+{
     if escapes_separator(url_path) {
         return Ok(None);
     }
@@ -41,6 +56,9 @@ pub fn named_path(alloc: Global, url_path: &str) -> Result<Option<Path>, Memory>
 pub fn escapes_separator(url_path: &str) -> bool
     ensures { result ≡ escapes_separator url_path.now }
 {
+    if !holds_percent(url_path) {
+        return false;
+    }
     let bytes = url_path.as_bytes();
     holds_escape(bytes, b"%2f") || holds_escape(bytes, b"%5c")
 }
