@@ -37,15 +37,15 @@ pub enum Refusal {
 /// Answers the bare texts of a target in `imports` from its package's folder. It keeps the answer to the last text, and
 /// what kept a text from being answered.
 #[derive(Drop)]
-struct BareTexts<'a, F: Folder> {
+struct BareTexts<'a, 'b, F: Folder> {
     lookup: Lookup<'a, F>,
-    package_folder: &'a Path,
-    conditions: &'a Conditions,
-    last: &'a mut Option<Result<FileUrl, Refusal>>,
+    package_folder: &'b Path,
+    conditions: &'b Conditions,
+    last: &'b mut Option<Result<FileUrl, Refusal>>,
     fault: Option<NodeFault>,
 }
 
-impl<'a, F: Folder> BareTarget for BareTexts<'a, F> {
+impl<'a, 'b, F: Folder> BareTarget for BareTexts<'a, 'b, F> {
     ghost use Rattle.node_spec.specs.PackageResolve.{package_resolve};
     ghost use Rattle.node_resolve.specs.BareTexts.{kept, GivesBare, KeepsNames};
     ghost use Rattle.package_lookup.specs.Lookups.{state_of};
@@ -173,7 +173,7 @@ fn chosen<F: Folder>(
 /// The same by an object that was asked for nothing yet.
 fn chosen_by<F: Folder>(
     alloc: Global,
-    bares: &mut BareTexts<'_, F>,
+    bares: &mut BareTexts<'_, '_, F>,
     target: &Value,
     star: Option<&str>,
     conditions: &Conditions,
