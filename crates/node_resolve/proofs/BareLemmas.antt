@@ -117,10 +117,11 @@ pub names_keep : {F : Type 0} (gives : BareTexts F → List ℕ → BareAnswer �
     → ((old new : BareTexts F) (text : List ℕ) (answer : BareAnswer) → gives old text answer new → KeepsNames old new)
     → (old new : BareTexts F) (asked : List Call) → Calls gives old asked new → KeepsNames old new
 names_keep gives keeps old new asked calls = record {
-  lookup = record {
-    known = calls_keep gives (λ b. b.lookup.known.ghost_name) (λ b n text answer gave. (keeps b n text answer gave).lookup.known) old new asked calls;
-    folder = calls_keep gives (λ b. b.lookup.folder.ghost_name) (λ b n text answer gave. (keeps b n text answer gave).lookup.folder) old new asked calls;
-    trail = calls_keep gives (λ b. b.lookup.trail.ghost_name) (λ b n text answer gave. (keeps b n text answer gave).lookup.trail) old new asked calls;
+  lookup = calls_keep gives (λ b. b.lookup.ghost_name) (λ b n text answer gave. (keeps b n text answer gave).lookup) old new asked calls;
+  same = record {
+    known = calls_keep gives (λ b. b.lookup.now.known.ghost_name) (λ b n text answer gave. (keeps b n text answer gave).same.known) old new asked calls;
+    folder = calls_keep gives (λ b. b.lookup.now.folder.ghost_name) (λ b n text answer gave. (keeps b n text answer gave).same.folder) old new asked calls;
+    trail = calls_keep gives (λ b. b.lookup.now.trail.ghost_name) (λ b n text answer gave. (keeps b n text answer gave).same.trail) old new asked calls;
   };
   last = calls_keep gives (λ b. b.last.ghost_name) (λ b n text answer gave. (keeps b n text answer gave).last) old new asked calls;
 }

@@ -75,5 +75,6 @@ pub data GivesBare (ask : List ℕ → Resolving Url) (before : Kept) (text : Li
       → GivesBare ask before text answer after
 
 pub record KeepsNames {F : Type 0} (old new : BareTexts F) : Type 0 where
-  pub lookup : IsSameLookup old.lookup new.lookup
+  pub lookup : new.lookup.ghost_name ≡ old.lookup.ghost_name
+  pub same : IsSameLookup old.lookup.now new.lookup.now
   pub last : new.last.ghost_name ≡ old.last.ghost_name

@@ -38,7 +38,7 @@ pub enum Refusal {
 /// what kept a text from being answered.
 #[derive(Drop)]
 struct BareTexts<'a, 'b, F: Folder> {
-    lookup: Lookup<'a, F>,
+    lookup: &'b mut Lookup<'a, F>,
     package_folder: &'b Path,
     conditions: &'b Conditions,
     last: &'b mut Option<Result<FileUrl, Refusal>>,
@@ -53,15 +53,15 @@ impl<'a, 'b, F: Folder> BareTarget for BareTexts<'a, 'b, F> {
     ghost gives = { λ old text answer new. KeepsNames old new × (new.package_folder ≡ old.package_folder)
         × (new.conditions ≡ old.conditions)
         × GivesBare (package_resolve old.conditions.now old.package_folder.now)
-        (kept (state_of F.state old.lookup) old.last.now old.fault) text answer
-        (kept (state_of F.state new.lookup) new.last.now new.fault) };
+        (kept (state_of F.state old.lookup.now) old.last.now old.fault) text answer
+        (kept (state_of F.state new.lookup.now) new.last.now new.fault) };
 
     ghost fails = { λ old text new. ⊥ };
 
     fn bare(&mut self, alloc: Global, text: &str) -> Result<BareAnswer, Memory> {
         let resolved = package_resolve(
             alloc,
-            &mut self.lookup,
+            self.lookup,
             self.package_folder,
             text,
             self.conditions,
@@ -157,11 +157,7 @@ fn chosen<F: Folder>(
     ensures same { IsSameLookup lookup.old lookup.new }
 {
     let mut bares = BareTexts {
-        lookup: Lookup {
-            known: lookup.known,
-            folder: lookup.folder,
-            trail: lookup.trail,
-        },
+        lookup,
         package_folder,
         conditions,
         last,
@@ -182,11 +178,11 @@ fn chosen_by<F: Folder>(
     requires fault { bares.now.fault ≡ None }
     ensures names { KeepsNames bares.old bares.new }
     ensures answered { Answered
-        (state_of F.state bares.old.lookup)
+        (state_of F.state bares.old.lookup.now)
         (target_comes (bares_from bares.old.conditions.now bares.old.package_folder.now)
         (judged_by conditions.now (option_map (λ part. part.now) star.entry) true) (json_of target.now) None)
         (chosen_shown result bares.new.last.now)
-        (state_of F.state bares.new.lookup) }
+        (state_of F.state bares.new.lookup.now) }
     ensures place { IfOk result BeginsWithDotSlash }
 {
     match choose(alloc, target, conditions, star, true, bares) {

@@ -5,7 +5,7 @@ use Rattle.node_resolve.proofs.bare_texts.BareTextsBareTarget.bare.Goals as goal
 
 pub returns-in-Ok-clause-answers : goal.returns-in-Ok-clause-answers
 returns-in-Ok-clause-answers g c = (
-  record { lookup = c.package_resolve-resolved.ensures.same; last = refl },
+  record { lookup = refl; same = c.package_resolve-resolved.ensures.same; last = refl },
   refl,
   refl,
   a_value {found = found_shown c.in-Ok.found}
@@ -15,7 +15,7 @@ returns-in-Ok-clause-answers g c = (
 
 pub returns-in-Err-clause-answers : goal.returns-in-Err-clause-answers
 returns-in-Err-clause-answers g c = (
-  record { lookup = c.package_resolve-resolved.ensures.same; last = refl },
+  record { lookup = refl; same = c.package_resolve-resolved.ensures.same; last = refl },
   refl,
   refl,
   a_fault {failing = failing_of c.in-Err.fault}
