@@ -85,10 +85,10 @@ fn members_in(value: Value) -> Option<Members>
 }
 
 fn package_of(alloc: Global, fields: Fields) -> Result<Package, Memory>
-    ensures shown { IfOk result (λ package. (members : Spec) → HoldsFields fields members
-        → record_shown package ≡ record_of members) }
-    ensures indexed { IfOk result (λ package. IsIndexOf package.exports.value package.exports.index
-        × IsIndexOf package.imports.value package.imports.index) }
+    ensures shown { IfOk result (λ read. (members : Spec) → HoldsFields fields members
+        → record_shown read ≡ record_of members) }
+    ensures indexed { IfOk result (λ read. IsIndexOf read.exports.value read.exports.index
+        × IsIndexOf read.imports.value read.imports.index) }
 {
     let Fields {
         name,
