@@ -2,7 +2,7 @@
 use Rattle.std.proofs.Common.{◌∙◌, ◌≡◌, ◌≢◌, ℕ, List, [], Bool, true, false, append-nil, Option, Some, None, IfSome, Result, Ok, Err, refl, sym, ap, subst}
 use Rattle.std.specs.FinMap.{get}
 use Rattle.std.specs.List.{ends_with}
-use Rattle.std.specs.Prelude.{◌++◌, ⊤, All, Contains, MatchOption, nat_eq, codes}
+use Rattle.std.specs.Prelude.{◌≤◌, ◌+◌, ◌++◌, ⊤, All, length, Contains, MatchOption, nat_eq, codes}
 use Rattle.std.proofs.lemmas.Bool.{cond-false}
 use Rattle.std.proofs.lemmas.Option.{same_Some}
 use Rattle.std.proofs.lemmas.List.{append_cancel_left}
@@ -36,13 +36,13 @@ use Rattle.generator_spec.specs.Generation.{PageIsFile}
 use Rattle.trace_spec.specs.Traces.{traced, generation}
 use Rattle.trace_walk.specs.Kinds.{IsOfWalk}
 use Rattle.trace_walk.specs.Meeting.{IsTold}
-use Rattle.request_trace.specs.Tracing.{known_of, IsOfFootprint, Traces}
+use Rattle.request_trace.specs.Tracing.{known_of, IsOfFootprint, TakesStepsToEnd, Traces}
 use Rattle.generator_spec.specs.Commands.{IsGenerating, Opens, Refuses as refuses, IsRefusalOf as kind}
 use Rattle.generator_spec.specs.declared.Command.{Command}
 use Rattle.generation.specs.declared.generated.Generated.{Generated}
 use Rattle.generation.specs.declared.stop.Stop.{Stop}
 use Rattle.generation.specs.declared.stop.Stop.TheVariants.{Refused, ReadFault, Memory}
-use Rattle.generation.specs.Generating.{StopsAs, IsMapOf, IsMapOfTree, HasLargeMap, AsksNoPathTwice, AsksFootprint, Tracing, Generating}
+use Rattle.generation.specs.Generating.{StopsAs, IsMapOf, IsMapOfTree, HasLargeMap, AsksNoPathTwice, AsksFootprint, StepsToEnd, Tracing, Generating}
 use Rattle.generation.specs.Generating.{IfSeen, TracingOver, GeneratingOver}
 use Rattle.generation.specs.Generating.StopsAs.{failed_look, memory, refused}
 use Rattle.generation.specs.Mapping.{MapsTrace}
@@ -173,6 +173,13 @@ module _ (config : Config) (before after : FolderState) (known later : Known) (f
 
   in_the_tree : (P : Tree → Type 0) → IfSome before.holds (λ tree. IfSeen tree known P) → IfSome before.holds P
   in_the_tree P is = if_some before.holds (λ tree each. each tree (sees_all tree known fresh)) is
+
+  -- what a trace takes by all that looks tell it takes by what stands in the tree
+  pub steps_fresh : (from to : ℕ) → TakesStepsToEnd config before known from to → StepsToEnd config before.holds from to
+  steps_fresh from to takes =
+      if_some before.holds (λ tree each. λ asked is.
+      let here = each (get tree) (sees_all tree known fresh) in
+      subst (λ questions. to ≤ from + length questions) (same_Some here.asked asked (sym here.are ∙ is)) here.steps) takes
 
   pub traced_fresh : (result : Result Gathered Stop) → TracingOver config before known result after later → Tracing config before result after
   traced_fresh (Ok all) is = record { traces = in_the_tree (λ tree. traced (get tree) config ≡ Ok all) is.traces; refused = tt; kind = tt; asked = asks _ is.learns; footprint = looks_at _ is.learns; looks = is.looks }

@@ -6,13 +6,14 @@
 --     AsksNoPathTwice old after      the folder was asked for further paths, for none of them twice
 --     AsksFootprint config holds old after      where a tree is told, all further paths are of its footprint
 --     AsksFurther config before after      a folder that tells what it is asked for was asked so
+--     StepsToEnd config holds before after      no more steps than the trace of a told tree asks questions until it ends
 --     Tracing config before result after      the trace of a folder, and what is left of that
 --     generated_of result      the map, without its trace
 --     Generating config before result after      what the call that generates gives for a folder, and what it leaves
 --     IfSeen tree known P      of each tree that is seen where this is known of the tree behind, this
 --     TracingOver, GeneratingOver config before known result after later      the same, where something is known of the
 --                                                                             folder
-use Rattle.std.specs.Prelude.{◌≡◌, ◌≢◌, ◌≤◌, ◌<◌, ◌++◌, ⊤, ℕ, List, length, bytes_eq, All, Contains}
+use Rattle.std.specs.Prelude.{◌≡◌, ◌≢◌, ◌≤◌, ◌<◌, ◌+◌, ◌++◌, ⊤, ℕ, List, length, bytes_eq, All, Contains}
 use Rattle.std.specs.Prelude.{Option, Some, Result, Ok, Err, IfOk, IfErr, IfSome}
 use Rattle.std.specs.FinMap.{get}
 use Rattle.std.specs.List.{IsDistinct}
@@ -30,6 +31,8 @@ use Rattle.trace_spec.specs.declared.TraceFault.{TraceFault}
 use Rattle.trace_spec.specs.declared.TraceFault.TheVariants as fault
 use Rattle.trace_spec.specs.Modules.{Config}
 use Rattle.trace_spec.specs.Checks.{Gathered}
+use Rattle.trace_spec.specs.Laws.{asked_by_end}
+use Rattle.trace_spec.specs.Questions.{Question}
 use Rattle.trace_spec.specs.Traces.{traced, generation}
 use Rattle.package_lookup.specs.declared.known.Known.{Known}
 use Rattle.package_lookup.specs.Looked.{Sees}
@@ -96,6 +99,12 @@ AsksFootprint config holds old after =
 pub record AsksFurther (config : Config) (before after : FolderState) : Type 0 where
   pub once : IfSome before.asked (λ old. AsksNoPathTwice old after)
   pub footprint : IfSome before.asked (λ old. AsksFootprint config before.holds old after)
+
+-- own: whether or not it is refused there
+abbrev pub StepsToEnd : Config → Option Tree → ℕ → ℕ → Type 0
+StepsToEnd config holds before after =
+    IfSome holds
+    (λ tree. (asked : List Question) → asked_by_end (get tree) config ≡ Some asked → after ≤ before + length asked)
 
 -- own: a told tree has this trace, or refuses each command that is opened so; and whatever is told, each can be refused
 -- so. What isn't refused is a look that failed and was counted, or want of memory

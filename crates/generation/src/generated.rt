@@ -2,12 +2,13 @@ ghost use Rattle.std.specs.Prelude.{◌≡◌, ◌+◌, Err, IfOk, Some};
 ghost use Rattle.fewest_spec.specs.Wishes.{HasTooManyChoices};
 ghost use Rattle.layout.specs.Layouts.{FewestLists};
 ghost use Rattle.request_trace.specs.Footprints.{IsFootprint};
-ghost use Rattle.request_trace.specs.Tracing.{TakesSteps};
+ghost use Rattle.request_trace.specs.Tracing.{TakesSteps, TakesStepsToEnd};
 ghost use Rattle.generator_spec.specs.Generation.{PageIsFile};
 ghost use Rattle.trace_spec.specs.Modules.{web_name};
 ghost use Rattle.trace_spec.specs.Walking.{the_page};
 ghost use Rattle.generation.specs.Digesting.{HasEach};
-ghost use Rattle.generation.specs.Generating.{Generating, GeneratingOver, IsMapOf, HasLargeMap, generated_of};
+ghost use Rattle.generation.specs.Generating.{Generating, GeneratingOver, IsMapOf, HasLargeMap};
+ghost use Rattle.generation.specs.Generating.{StepsToEnd, generated_of};
 ghost use Rattle.generation.specs.Mapping.{MapsTrace};
 
 use crate::digester::{ComputedDigests, Digester};
@@ -44,7 +45,7 @@ enum MapFault {
 }
 
 /// The map of what stands in the folder, for the config. Nothing is written, and no path is looked at twice. A map
-/// takes at most one step for each module and for each request.
+/// takes at most one step for each module and for each request, and where the trace is refused, up to the refusal.
 pub fn generate<F: Folder, L: Ledger>(
     alloc: Global,
     folder: &mut F,
@@ -54,6 +55,7 @@ pub fn generate<F: Folder, L: Ledger>(
     ensures generates { Generating config.now (F.state folder.old) result (F.state folder.new) }
     ensures page { IfOk result (λ found. PageIsFile config.now) }
     ensures steps { TakesSteps result (λ found. found.modules + found.requests) steps.old steps.new }
+    ensures to_end { StepsToEnd config.now (F.state folder.old).holds steps.old steps.new }
 {
     let mut known = Known::new(alloc);
     generate_over(alloc, folder, &mut known, config, steps)
@@ -72,6 +74,7 @@ pub fn generate_over<F: Folder, L: Ledger>(
         (F.state folder.new) known.new }
     ensures page { IfOk result (λ found. PageIsFile config.now) }
     ensures steps { TakesSteps result (λ found. found.modules + found.requests) steps.old steps.new }
+    ensures to_end { TakesStepsToEnd config.now (F.state folder.old) known.old steps.old steps.new }
 {
     match generate_traced(alloc, folder, known, config, steps) {
         Err(stop) => Err(stop),
@@ -93,6 +96,7 @@ pub fn generate_traced<F: Folder, L: Ledger>(
     ensures footprint { IfOk result (λ found. IsFootprint config.now (F.state folder.old) known.old known.new
         found.1.footprint) }
     ensures steps { TakesSteps result (λ found. found.0.modules + found.0.requests) steps.old steps.new }
+    ensures to_end { TakesStepsToEnd config.now (F.state folder.old) known.old steps.old steps.new }
 {
     match traced_over(alloc, folder, known, config, steps) {
         Err(stop) => Err(stop),

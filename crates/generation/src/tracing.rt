@@ -1,8 +1,8 @@
 ghost use Rattle.std.specs.Prelude.{◌≡◌, ◌+◌, IfOk, length};
 ghost use Rattle.request_trace.specs.Footprints.{IsFootprint};
 ghost use Rattle.request_trace.specs.Showing.{gathered_of};
-ghost use Rattle.request_trace.specs.Tracing.{TakesSteps};
-ghost use Rattle.generation.specs.Generating.{Tracing, TracingOver};
+ghost use Rattle.request_trace.specs.Tracing.{TakesSteps, TakesStepsToEnd};
+ghost use Rattle.generation.specs.Generating.{StepsToEnd, Tracing, TracingOver};
 
 use crate::stop::{Stop, stop_of};
 use package_lookup::Known;
@@ -13,7 +13,7 @@ use std::sync::ledger::Ledger;
 use tree_model::Folder;
 
 /// The trace of what stands in the folder, for the config. Nothing is written, and no path is looked at twice. A trace
-/// takes at most one step for each module and for each request.
+/// takes at most one step for each module and for each request, where it is refused up to the refusal.
 pub fn traced<F: Folder, L: Ledger>(
     alloc: Global,
     folder: &mut F,
@@ -24,6 +24,7 @@ pub fn traced<F: Folder, L: Ledger>(
     ensures entries { IfOk result (λ trace. length trace.links.roots ≡ length config.now.entries) }
     ensures steps { TakesSteps result (λ trace. length trace.gathered.modules + length trace.gathered.targets)
         steps.old steps.new }
+    ensures to_end { StepsToEnd config.now (F.state folder.old).holds steps.old steps.new }
 {
     let mut known = Known::new(alloc);
     traced_over(alloc, folder, &mut known, config, steps)
@@ -44,6 +45,7 @@ pub(crate) fn traced_over<F: Folder, L: Ledger>(
         trace.footprint) }
     ensures steps { TakesSteps result (λ trace. length trace.gathered.modules + length trace.gathered.targets)
         steps.old steps.new }
+    ensures to_end { TakesStepsToEnd config.now (F.state folder.old) known.old steps.old steps.new }
 {
     match trace(alloc, folder, known, config, steps) {
         Err(fault) => Err(stop_of(fault)),

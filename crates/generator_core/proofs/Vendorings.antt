@@ -38,11 +38,9 @@ use Rattle.generator_spec.specs.Vendoring.{copied_files, IsCopyRefusal as kinds,
 use Rattle.generator_spec.specs.declared.Refusal.{Refusal}
 use Rattle.generator_spec.specs.declared.Refusal.TheVariants.{Occupied, PathTooLong, TooManySegments}
 use Rattle.generator_core.specs.declared.vendoring.Copies.{Copies}
-use Rattle.generator_core.specs.Spending.{FitsTrace}
 use Rattle.generator_core.specs.Vendoring.{as_new, new_files, AsksCopies, AsksCopies as asks, EndsCopies, IsFree}
 use Rattle.generator_core.specs.Vendoring.{IsReadyTo, PreparesCopies, RefusesHere, RefusesHere as here, StandsAt, StopsCopies, StopsCopies as stops, StopsPlan}
 use Rattle.generator_core.specs.Writing.{WritesFiles, WritesFiles as writes_files}
-use Rattle.generator_core.proofs.StepsByTrace.{map_fits}
 use Rattle.generator_core.proofs.Preparings.{asks_few}
 
 -- ---- lists of files
@@ -105,9 +103,6 @@ module _ (to : List ℕ) (config : Config) (before middle : FolderState) (known 
 
     has_map : HasMap config before.holds
     has_map = if_some before.holds (λ tree is. (found.map.items, is)) maps
-
-    pub copies_few : (P : Type 0) (steps spent : ℕ) → spent ≤ steps + (found.modules + found.requests) → FitsTrace P config before.holds (λ all. 0) steps spent
-    copies_few P steps spent few = map_fits P config before.holds found steps spent is_generated.generated few
 
     -- the folder of the copies is asked for last
     asks_last : (after : FolderState) → (after.asked ≡ middle.asked) ⊎ (after.asked ≡ option_map (λ paths. paths ++ to ∷ []) middle.asked)

@@ -37,7 +37,7 @@ use Rattle.generator_spec.specs.Statuses.{done_status, not_reached_status}
 use Rattle.generation.specs.declared.stop.Stop.{Stop}
 use Rattle.generator_core.specs.declared.checking.Report.{Report}
 use Rattle.generator_core.specs.Preparing.{EndsBefore}
-use Rattle.generator_core.specs.Spending.{CommandSpends, FitsOrder}
+use Rattle.generator_core.specs.Spending.{CommandSpends, FitsTrace}
 
 -- ---- by the graph
 
@@ -113,4 +113,4 @@ pub record RunsWhy (path : List ℕ) (config : Config) (before after : FolderSta
       → EndsAs words before after out out_after result
   pub asked : IfSome before.asked (λ old. AsksFew config before.holds [] old after)
   pub spends : CommandSpends (IsGenerating Why) out out_after result steps later
-  pub by_trace : FitsOrder Why config before.holds result steps later
+  pub by_trace : FitsTrace Why config before.holds steps later

@@ -8,7 +8,7 @@ use Rattle.trace_spec.specs.Modules.{Config}
 use Rattle.config_spec.specs.declared.Command.{Command}
 use Rattle.generator_spec.specs.Asked.{IsConfigAt, AsksFew, own_file}
 use Rattle.generator_spec.specs.Ending.{EndsAs}
-use Rattle.generator_core.specs.Spending.{FitsOrder, OrderSpends}
+use Rattle.generator_core.specs.Spending.{FitsTrace, OrderSpends}
 
 pub record RunsCommand (command : Command) (config : Config) (before after : FolderState) (out out_after : SinkState)
     (result steps later : ℕ) : Type 0 where
@@ -17,4 +17,4 @@ pub record RunsCommand (command : Command) (config : Config) (before after : Fol
       → EndsAs words before after out out_after result
   pub asked : IfSome before.asked (λ old. AsksFew config before.holds (own_file command config) old after)
   pub spends : OrderSpends command out out_after result steps later
-  pub by_trace : FitsOrder command config before.holds result steps later
+  pub by_trace : FitsTrace command config before.holds steps later

@@ -34,7 +34,6 @@ use Rattle.generator_spec.specs.Asked.{AsksFew, HasMap, IsConfigAt}
 use Rattle.generator_spec.specs.Commands.{IsRefusalOf, NewFile, new_file, Refuses, SaysCounts}
 use Rattle.generator_spec.specs.CopiedMaps.{generation_paths}
 use Rattle.generator_spec.specs.Ending.{Ends, EndsAs}
-use Rattle.generator_spec.specs.Statuses.{done_status}
 use Rattle.generator_spec.specs.Generation.{Generates}
 use Rattle.generator_spec.specs.Vendoring.{copied_files, IsCopyRefusal, RefusesCopies}
 use Rattle.generation.specs.Generating.{IfRefused}
@@ -137,4 +136,4 @@ pub record RunsVendor (to : List ℕ) (config : Config) (before after : FolderSt
       → EndsAs words before after out out_after result
   pub asked : IfSome before.asked (λ old. AsksCopies to config before old after)
   pub spends : CommandSpends (SaysCounts Vendor) out out_after result steps later
-  pub by_trace : FitsTrace (result ≡ done_status) config before.holds (λ all. 0) steps later
+  pub by_trace : FitsTrace Vendor config before.holds steps later

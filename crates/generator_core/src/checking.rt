@@ -1,6 +1,6 @@
 //! What a command says of the map that is there, or why it says nothing.
 
-ghost use Rattle.std.specs.Prelude.{◌≡◌, ◌≤◌, ◌+◌, ◌++◌, [], ◌∷◌, length, map, IfOk, IfErr, OnOk, IfSome};
+ghost use Rattle.std.specs.Prelude.{◌≡◌, ◌≤◌, ◌+◌, ◌++◌, [], ◌∷◌, length, map, IfOk, OnOk, IfSome};
 ghost use Rattle.std.specs.List.{concat};
 ghost use Rattle.tree_spec.specs.declared.LimitName.TheVariants.{Modules, Requests};
 ghost use Rattle.tree_spec.specs.Limits.{limit_number};
@@ -14,7 +14,7 @@ ghost use Rattle.generator_spec.specs.Commands as spec_files;
 ghost use Rattle.generator_spec.specs.Commands.{HoldsMap};
 ghost use Rattle.generator_core.specs.Checking.{AsksGrammar, Checks, ChecksBy, FindsMapText, FindsMap, IsNameless};
 ghost use Rattle.generator_core.specs.Checking.{IsReportOf, IsTold, IsToldStrictly, Reports};
-ghost use Rattle.generator_core.specs.Spending.{FitsTrace, IsRefusal};
+ghost use Rattle.generator_core.specs.Spending.{FitsTrace};
 ghost use Rattle.generator_core.specs.Strictness.{further_steps, module_steps};
 
 use crate::paths::map_path;
@@ -53,8 +53,8 @@ pub fn checked<F: Folder, L: Ledger>(
         → Checks command config.now (F.state folder.old) result (F.state folder.new) }
     ensures bounded { steps.new
         ≤ steps.old + (limit_number Modules + limit_number Requests) + further_steps strictly }
-    ensures by_trace { FitsTrace (IfErr result IsRefusal) config.now (F.state folder.old).holds
-        (module_steps strictly) steps.old steps.new }
+    ensures by_trace { (command : Command) → AsksGrammar command strictly
+        → FitsTrace command config.now (F.state folder.old).holds steps.old steps.new }
 {
     match map_text(alloc, folder) {
         Err(stop) => Err(stop),
@@ -156,8 +156,8 @@ fn checked_by<F: Folder, L: Ledger>(
         → ChecksBy command config.now (F.state folder.old) result (F.state folder.new) }
     ensures bounded { steps.new
         ≤ steps.old + (limit_number Modules + limit_number Requests) + further_steps strictly }
-    ensures by_trace { FitsTrace (IfErr result IsRefusal) config.now (F.state folder.old).holds
-        (module_steps strictly) steps.old steps.new }
+    ensures by_trace { (command : Command) → AsksGrammar command strictly
+        → FitsTrace command config.now (F.state folder.old).holds steps.old steps.new }
 {
     match traced(alloc, folder, config, steps) {
         Err(stop) => Err(stop),

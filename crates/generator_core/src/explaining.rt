@@ -1,17 +1,17 @@
 //! What is said of a file that the page may come to load, or why nothing is said.
 
-ghost use Rattle.std.specs.Prelude.{◌≡◌, ◌≤◌, ◌<◌, ◌+◌, ◌++◌, [], IfErr, IfOk, OnOk, Some, length};
+ghost use Rattle.std.specs.Prelude.{◌≡◌, ◌≤◌, ◌<◌, ◌+◌, ◌++◌, [], IfOk, OnOk, Some, length};
 ghost use Rattle.std.specs.Prelude.{option_copied, slice_get, unwrap_or};
 ghost use Rattle.std.specs.List.{concat};
 ghost use Rattle.slot_arena.specs.Slots.{value_at};
 ghost use Rattle.tree_spec.specs.declared.LimitName.TheVariants.{Modules, Requests};
 ghost use Rattle.tree_spec.specs.Limits.{limit_number};
 ghost use Rattle.trace_graph.specs.Links.{IsLive, module_in};
+ghost use Rattle.generation.specs.Generating.{StepsToEnd};
 ghost use Rattle.generator_spec.specs.Explaining.{request_line};
 ghost use Rattle.generator_spec.specs.Lines as spec;
 ghost use Rattle.generator_spec.specs.Statuses.{done_status, not_reached_status};
 ghost use Rattle.generator_core.specs.Explaining.{AreLive, ExplainsFile, IsReportBy, specifiers_of, step_lines};
-ghost use Rattle.generator_core.specs.Spending.{FitsTrace, IsRefusal};
 
 use crate::checking::Report;
 use chain_why::{Chain, chain};
@@ -33,8 +33,7 @@ pub fn explained<F: Folder, L: Ledger>(
 ) -> Result<Report, Stop>
     ensures explains { ExplainsFile path.now config.now (F.state folder.old) result (F.state folder.new) }
     ensures bounded { steps.new ≤ steps.old + (limit_number Modules + limit_number Requests) }
-    ensures by_trace { FitsTrace (IfErr result IsRefusal) config.now (F.state folder.old).holds (λ all. 0)
-        steps.old steps.new }
+    ensures to_end { StepsToEnd config.now (F.state folder.old).holds steps.old steps.new }
 {
     match traced(alloc, folder, config, steps) {
         Err(stop) => Err(stop),

@@ -1,13 +1,13 @@
 //! What a list says of the modules, or why it says nothing.
 
-ghost use Rattle.std.specs.Prelude.{◌≡◌, ◌≤◌, ◌+◌, IfErr, IfOk, OnOk, option_map, slice_get};
+ghost use Rattle.std.specs.Prelude.{◌≡◌, ◌≤◌, ◌+◌, IfOk, OnOk, option_map, slice_get};
 ghost use Rattle.std.specs.List.{concat};
 ghost use Rattle.tree_spec.specs.declared.LimitName.TheVariants.{Modules, Requests};
 ghost use Rattle.tree_spec.specs.Limits.{limit_number};
 ghost use Rattle.trace_graph.specs.Links.{module_of, source_of};
+ghost use Rattle.generation.specs.Generating.{StepsToEnd};
 ghost use Rattle.generator_spec.specs.Listing.{list_lines};
 ghost use Rattle.generator_core.specs.Listing.{IsPushed, Lists};
-ghost use Rattle.generator_core.specs.Spending.{FitsTrace, IsRefusal};
 
 use crate::checking::Report;
 use generation::{Stop, traced};
@@ -27,8 +27,7 @@ pub fn listed<F: Folder, L: Ledger>(
 ) -> Result<Report, Stop>
     ensures lists { Lists config.now (F.state folder.old) result (F.state folder.new) }
     ensures bounded { steps.new ≤ steps.old + (limit_number Modules + limit_number Requests) }
-    ensures by_trace { FitsTrace (IfErr result IsRefusal) config.now (F.state folder.old).holds (λ all. 0)
-        steps.old steps.new }
+    ensures to_end { StepsToEnd config.now (F.state folder.old).holds steps.old steps.new }
 {
     match traced(alloc, folder, config, steps) {
         Err(stop) => Err(stop),

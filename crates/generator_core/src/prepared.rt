@@ -5,7 +5,7 @@ ghost use Rattle.page_spec.specs.Injection.{TakesMaps};
 ghost use Rattle.config_spec.specs.declared.Command.TheVariants.{Inject};
 ghost use Rattle.generator_spec.specs.Commands.{IsPage};
 ghost use Rattle.request_trace.specs.Tracing.{TakesSteps};
-ghost use Rattle.generation.specs.Generating.{AsksFurther};
+ghost use Rattle.generation.specs.Generating.{AsksFurther, StepsToEnd};
 ghost use Rattle.config_spec.specs.declared.Command.{Command};
 ghost use Rattle.generator_core.specs.Preparing.{AreMapFiles, FindsPage, IsPageFile, KeepsProject, Prepares};
 
@@ -48,6 +48,7 @@ pub fn prepare_map<F: Folder, L: Ledger>(
     ensures prepares { (command : Command) → KeepsProject command keeps
         → Prepares command config.now (F.state folder.old) result (F.state folder.new) }
     ensures steps { TakesSteps result (λ prepared. prepared.modules + prepared.requests) steps.old steps.new }
+    ensures to_end { StepsToEnd config.now (F.state folder.old).holds steps.old steps.new }
 {
     match generate(alloc, folder, config, steps) {
         Err(stop) => Err(stop),
@@ -100,6 +101,7 @@ pub fn prepare_page<F: Folder, L: Ledger>(
 ) -> Result<Prepared, Stop>
     ensures prepares { Prepares Inject config.now (F.state folder.old) result (F.state folder.new) }
     ensures steps { TakesSteps result (λ prepared. prepared.modules + prepared.requests) steps.old steps.new }
+    ensures to_end { StepsToEnd config.now (F.state folder.old).holds steps.old steps.new }
 {
     match page_of(alloc, folder, config) {
         Err(stop) => Err(stop),
@@ -145,6 +147,7 @@ fn prepare_at<F: Folder, L: Ledger>(
         → Prepares Inject config.now (F.state folder.old) result (F.state folder.new) }
     ensures asked { AsksFurther config.now (F.state folder.old) (F.state folder.new) }
     ensures steps { TakesSteps result (λ prepared. prepared.modules + prepared.requests) steps.old steps.new }
+    ensures to_end { StepsToEnd config.now (F.state folder.old).holds steps.old steps.new }
 {
     match generate(alloc, folder, config, steps) {
         Err(stop) => Err(stop),

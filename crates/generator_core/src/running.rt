@@ -112,7 +112,7 @@ fn explain<F: Folder, O: Sink, L: Ledger>(
         → AsksInOrder words (F.state folder.old) old (F.state folder.new)) }
     ensures steps { CommandSpends (IsGenerating Why) (O.state out.old) (O.state out.new) result steps.old steps.new }
     ensures by_trace { (words : List (List ℕ)) → AsksWhyAt words path.now
-        → FitsWords words (F.state folder.old).holds result steps.old steps.new }
+        → FitsWords words (F.state folder.old).holds steps.old steps.new }
 {
     match configured(alloc, folder, Order::Refresh) {
         Ok(config) => tell_why(alloc, folder, &config, path, out, steps),
@@ -135,7 +135,7 @@ fn vendor<F: Folder, O: Sink, L: Ledger>(
         → AsksInOrder words (F.state folder.old) old (F.state folder.new)) }
     ensures steps { CommandSpends (SaysCounts Vendor) (O.state out.old) (O.state out.new) result steps.old steps.new }
     ensures by_trace { (words : List (List ℕ)) → VendorsAt words to.now
-        → FitsWords words (F.state folder.old).holds result steps.old steps.new }
+        → FitsWords words (F.state folder.old).holds steps.old steps.new }
 {
     match configured(alloc, folder, Order::Refresh) {
         Ok(config) => tell_copies(alloc, folder, &config, to, out, steps),
@@ -158,7 +158,7 @@ fn ordered<F: Folder, O: Sink, L: Ledger>(
     ensures steps { OrderSpends (command_ordered order.entry) (O.state out.old) (O.state out.new) result steps.old
         steps.new }
     ensures by_trace { (words : List (List ℕ)) → IsOrder words order.entry
-        → FitsWords words (F.state folder.old).holds result steps.old steps.new }
+        → FitsWords words (F.state folder.old).holds steps.old steps.new }
 {
     let command = order.command();
     match configured(alloc, folder, order) {

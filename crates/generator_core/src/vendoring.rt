@@ -1,9 +1,9 @@
 //! The copies of the files that a map needs: which they are, and that they may be written.
 
-ghost use Rattle.std.specs.Prelude.{◌≢◌, ◌≤◌, ◌+◌, IfErr, codes};
+ghost use Rattle.std.specs.Prelude.{◌≢◌, ◌≤◌, ◌+◌, codes};
 ghost use Rattle.tree_spec.specs.declared.LimitName.TheVariants.{Modules, Requests};
 ghost use Rattle.tree_spec.specs.Limits.{limit_number};
-ghost use Rattle.generator_core.specs.Spending.{FitsTrace};
+ghost use Rattle.generation.specs.Generating.{StepsToEnd};
 ghost use Rattle.generator_core.specs.Vendoring.{IsFree, PreparesCopies, StopsCopies, StopsPlan};
 
 use generation::{Stop, generate_traced};
@@ -35,8 +35,7 @@ pub fn prepare_copies<F: Folder, L: Ledger>(
     requires { to.now ≢ codes "/" }
     ensures prepares { PreparesCopies to.now config.now (F.state folder.old) result (F.state folder.new) }
     ensures bounded { steps.new ≤ steps.old + (limit_number Modules + limit_number Requests) }
-    ensures by_trace { FitsTrace (IfErr result (λ stop. ⊥)) config.now (F.state folder.old).holds (λ all. 0)
-        steps.old steps.new }
+    ensures to_end { StepsToEnd config.now (F.state folder.old).holds steps.old steps.new }
 {
     let mut known = Known::new(alloc);
     match generate_traced(alloc, folder, &mut known, config, steps) {

@@ -4,6 +4,7 @@ pub mod Generations
 pub mod CopiedMaps
 pub mod Explanations
 pub mod RequestNumbers
+pub mod CountedQuestions
 pub mod Nameless
 pub mod MapPaths
 pub mod Strictnesses

@@ -1,5 +1,5 @@
 -- The laws of generation, checks, outcomes and ends. Each is the contract of a function of this crate.
-use Rattle.std.specs.Prelude.{◌≡◌, ◌≢◌, ◌⊎◌, ◌↔◌, ◌++◌, ℕ, List, [], map, Some, Ok, Err}
+use Rattle.std.specs.Prelude.{◌≡◌, ◌≢◌, ◌≤◌, ◌⊎◌, ◌↔◌, ◌+◌, ◌++◌, ℕ, List, [], length, map, Some, Ok, Err}
 use Rattle.std.specs.FinMap.{get}
 use Rattle.tree_spec.specs.States.{FolderState, SinkState}
 use Rattle.tree_spec.specs.Trees.{Tree, IsTree}
@@ -15,6 +15,7 @@ use Rattle.trace_spec.specs.Traces.{leads, specifiers, traced}
 use Rattle.trace_spec.specs.Walking.{a_module}
 use Rattle.config_spec.specs.declared.Command.{Command}
 use Rattle.config_spec.specs.declared.Command.TheVariants.{CheckStrictly}
+use Rattle.config_spec.specs.Projects.{IsConfigOf}
 use Rattle.config_spec.specs.Words.{IsPlain, IsSession}
 use Rattle.generator_spec.specs.CheckAnswers.{IsCheckOf, IsShallow, AnswersCheck}
 use Rattle.generator_spec.specs.Checking.{difference_lines, SaysOfModules, check_status}
@@ -24,6 +25,7 @@ use Rattle.generator_spec.specs.Generation.{Generates, IsTooWide, IsTooLarge, ma
 use Rattle.generator_spec.specs.Outcome.{Outcome}
 use Rattle.generator_spec.specs.Serves.{Reachable}
 use Rattle.generator_spec.specs.Statuses.{done_status, memory_status}
+use Rattle.generator_spec.specs.Steps.{TraceSpends, further_steps}
 use Rattle.generator_spec.specs.Strictness.{ModulesAgree, AgreesAt}
 use Rattle.generator_spec.specs.Vendoring.{IsBlocked}
 use Rattle.generator_spec.specs.Ending.{EndsAs}
@@ -96,6 +98,17 @@ RequestsAreNumbered =
     → IsReached (asked_by (get tree) config) asker
     → map Some (asked_by (get tree) config asker)
     ≡ map (leads (get tree) config (referrer_of asker)) (specifiers (get tree) config (referrer_of asker))
+
+-- ---- steps
+
+-- where there is a trace, a run takes at most one step for each of its modules and each of its requests, and those that
+-- come behind it
+abbrev pub StepsAreCounted : Type 0
+StepsAreCounted =
+    (words : List (List ℕ)) (tree : Tree) (before after : ℕ) → TraceSpends words tree before after
+    → (command : Command) (config : Config) (all : Gathered) → IsConfigOf words tree command config
+    → traced (get tree) config ≡ Ok all
+    → after ≤ before + (length all.modules + length all.targets) + further_steps all command
 
 -- ---- outcomes
 

@@ -2,25 +2,28 @@
 --     SpendsFew out out_after before after      where the output tells what it took: the line of a map went out, with
 --                                               so many modules and requests that they are no fewer than the steps
 --     MeasureSpends number out out_after before after      the same of the line of a measure
---     IsTracing command                         the command traces, and generates nothing
 --     further_steps all command                 how many steps come behind the trace
---     IsUnfaulted result                        neither a fault ended the run nor want of memory
---     TraceSpends words tree result before after      no more steps than the tree's trace has modules and requests, and
---                                               where each module is checked one more for each
+--     steps_behind trace command                the same of a trace that may be refused
+--     TraceSpends words tree before after       no more steps than the tree's trace asks questions until it ends, and
+--                                               come behind it
 --     RunSpends words holds out out_after result before after      no more steps than its line tells, where a command
 --                                               that writes a map is done, or a measure, and the output tells what it
 --                                               took; no more than the trace has, where the tree is told; never more
 --                                               than there may be modules and requests, and where each module is
 --                                               checked once more as many modules; and none where the words ask for no command
 --                                               and no measure
-use Rattle.std.specs.Prelude.{◌≡◌, ◌≢◌, ◌≤◌, ◌+◌, ◌++◌, ⊤, ℕ, List, length, Option, IfSome, Ok, option_map}
+use Rattle.std.specs.Prelude.{◌≡◌, ◌≤◌, ◌+◌, ◌++◌, ℕ, List, length, Option, Some, IfSome, Result, Ok, Err}
+use Rattle.std.specs.Prelude.{option_map}
 use Rattle.std.specs.FinMap.{get}
 use Rattle.tree_spec.specs.declared.LimitName.TheVariants.{Modules, Requests}
 use Rattle.tree_spec.specs.Limits.{limit_number}
 use Rattle.tree_spec.specs.States.{SinkState}
 use Rattle.tree_spec.specs.Trees.{Tree}
 use Rattle.trace_spec.specs.Checks.{Gathered}
+use Rattle.trace_spec.specs.declared.TraceFault.{TraceFault}
+use Rattle.trace_spec.specs.Laws.{asked_by_end}
 use Rattle.trace_spec.specs.Modules.{Config}
+use Rattle.trace_spec.specs.Questions.{Question}
 use Rattle.trace_spec.specs.Traces.{traced}
 use Rattle.config_spec.specs.declared.Command.{Command}
 use Rattle.config_spec.specs.declared.Command.TheVariants.{Link, Unlink, Refresh, Inject, Check, CheckStrictly, Why}
@@ -30,7 +33,7 @@ use Rattle.config_spec.specs.Projects.{IsConfigOf}
 use Rattle.config_spec.specs.Words.{IsCommandOf, Measures}
 use Rattle.generator_spec.specs.Commands.{SaysCounts}
 use Rattle.generator_spec.specs.Lines.{counts_line, measure_line}
-use Rattle.generator_spec.specs.Statuses.{done_status, read_fault_status, write_fault_status, memory_status}
+use Rattle.generator_spec.specs.Statuses.{done_status}
 
 -- own: a step for each module and for each request that the line tells, at most; of an output that tells nothing, no
 -- line is known, and nothing is said but that it goes on telling nothing
@@ -48,18 +51,6 @@ pub record MeasureSpends (number : ℕ) (out out_after : SinkState) (before afte
   pub said : out_after.got ≡ option_map (λ front. front ++ measure_line number modules requests mappings) out.got
   pub few : after ≤ before + (modules + requests)
 
--- own: `vendor` generates
-abbrev pub IsTracing : Command → Type 0
-IsTracing Link = ⊥
-IsTracing Unlink = ⊥
-IsTracing Refresh = ⊥
-IsTracing Inject = ⊥
-IsTracing Check = ⊤
-IsTracing CheckStrictly = ⊤
-IsTracing Lists = ⊤
-IsTracing Why = ⊤
-IsTracing Vendor = ⊥
-
 -- own: `check --strict` reads the outline of each module once more
 abbrev pub further_steps : Gathered → Command → ℕ
 further_steps all Link = 0
@@ -72,18 +63,18 @@ further_steps all Lists = 0
 further_steps all Why = 0
 further_steps all Vendor = 0
 
-abbrev pub IsUnfaulted : ℕ → Type 0
-IsUnfaulted result = (result ≢ read_fault_status) × (result ≢ write_fault_status) × (result ≢ memory_status)
+-- own: behind a refusal nothing is read
+abbrev pub steps_behind : Result Gathered TraceFault → Command → ℕ
+steps_behind (Ok all) command = further_steps all command
+steps_behind (Err refusal) command = 0
 
--- own: where the tree has a trace, and no fault and no want of memory comes between
-pub record TraceSpends (words : List (List ℕ)) (tree : Tree) (result before after : ℕ) : Type 0 where
-  pub few :
-      (command : Command) (config : Config) (all : Gathered) → IsConfigOf words tree command config → IsTracing command
-      → traced (get tree) config ≡ Ok all → IsUnfaulted result
-      → after ≤ before + (length all.modules + length all.targets) + further_steps all command
-  pub copied :
-      (config : Config) (all : Gathered) → IsConfigOf words tree Vendor config → traced (get tree) config ≡ Ok all
-      → result ≡ done_status → after ≤ before + (length all.modules + length all.targets)
+-- own: however the run ends, also by a refusal, a fault or want of memory. Of a trace that isn't refused there is one
+-- question for each module and one for each request
+abbrev pub TraceSpends : List (List ℕ) → Tree → ℕ → ℕ → Type 0
+TraceSpends words tree before after =
+    (command : Command) (config : Config) (asked : List Question) → IsConfigOf words tree command config
+    → asked_by_end (get tree) config ≡ Some asked
+    → after ≤ before + length asked + steps_behind (traced (get tree) config) command
 
 -- own: `told` where a command that writes a map answers 0, `measured` where a measure does, `by_trace` where the tree
 -- is told, `bounded` however the run ends, but where it is asked to check strictly, `strictly` however it ends,
@@ -95,7 +86,7 @@ pub record RunSpends (words : List (List ℕ)) (holds : Option Tree) (out out_af
       → SpendsFew out out_after before after
   pub measured :
       (number : ℕ) → Measures words number → result ≡ done_status → MeasureSpends number out out_after before after
-  pub by_trace : IfSome holds (λ tree. TraceSpends words tree result before after)
+  pub by_trace : IfSome holds (λ tree. TraceSpends words tree before after)
   pub bounded :
       (IsCommandOf words CheckStrictly → ⊥) → after ≤ before + (limit_number Modules + limit_number Requests)
   pub strictly : after ≤ before + (limit_number Modules + limit_number Requests) + limit_number Modules

@@ -4,7 +4,8 @@
 
 ghost use Rattle.generator_spec.specs.Laws.{AgreesWhereReached, ChecksAnswer, ChecksAreExact};
 ghost use Rattle.generator_spec.specs.Laws.{OneGeneration, SomeGeneration, NothingRefused};
-ghost use Rattle.generator_spec.specs.Laws.{RequestsAreNumbered, OneOutcome, SomeOutcome, EndsKeepPromises};
+ghost use Rattle.generator_spec.specs.Laws.{RequestsAreNumbered, StepsAreCounted};
+ghost use Rattle.generator_spec.specs.Laws.{OneOutcome, SomeOutcome, EndsKeepPromises};
 ghost use Rattle.generator_spec.specs.WorkedExamples.{StrictExamples};
 
 mod copies;
@@ -106,6 +107,12 @@ pub fn strict_examples()
 /// Where there is a trace, the request with a number leads to the module with that number.
 pub fn requests_are_numbered()
     ensures { RequestsAreNumbered }
+{}
+
+/// Where there is a trace, a run takes at most one step for each module and each request, and where each module is
+/// checked one more for each.
+pub fn steps_are_counted()
+    ensures { StepsAreCounted }
 {}
 
 /// A command over a tree has one outcome at most.

@@ -1,10 +1,7 @@
-use Rattle.std.proofs.Common.{subst}
-use Rattle.std.specs.Prelude.{IfErr}
+use Rattle.std.proofs.Common.{refl, subst}
 use Rattle.generator_core.specs.Checking.{FindsMapText, FindsMap}
-use Rattle.generator_core.specs.Spending.{FitsTrace, IsRefusal}
-use Rattle.generator_core.specs.Strictness.{module_steps}
 use Rattle.generator_core.proofs.Checkings.{asks_checking, text_refused, map_refused, text_still, checks_behind}
-use Rattle.generator_core.proofs.StepsByTrace.{unspent_fits}
+use Rattle.generator_core.proofs.StepsByTrace.{fits_earlier, unspent_fits}
 use Rattle.generator_core.proofs.checking.checked.Goals as goal
 
 pub returns-in-Err-clause-checks : goal.returns-in-Err-clause-checks
@@ -31,17 +28,15 @@ returns-clause-checks g c = λ command asks.
     (subst (λ r. FindsMap c.args.config.now c.in-Ok.text r) c.in-Ok-map_of.is (subst (λ t. FindsMap c.args.config.now t c.map_of.result) c.as_slice.ensures c.map_of.ensures)).reads) command asks)
 
 pub returns-in-Err-clause-by_trace : goal.returns-in-Err-clause-by_trace
-returns-in-Err-clause-by_trace g c =
-    unspent_fits _ c.args.config.now (g.F.Folder.state c.args.folder.now).holds (module_steps c.args.strictly) c.args.steps.now
+returns-in-Err-clause-by_trace g c = λ command asking. unspent_fits command c.args.config.now (g.F.Folder.state c.args.folder.now).holds c.args.steps.now
 
 pub returns-in-Err-map_of-clause-by_trace : goal.returns-in-Err-map_of-clause-by_trace
-returns-in-Err-map_of-clause-by_trace g c =
-    unspent_fits _ c.args.config.now (g.F.Folder.state c.args.folder.now).holds (module_steps c.args.strictly) c.args.steps.now
+returns-in-Err-map_of-clause-by_trace g c = λ command asking. unspent_fits command c.args.config.now (g.F.Folder.state c.args.folder.now).holds c.args.steps.now
 
 pub returns-clause-by_trace : goal.returns-clause-by_trace
-returns-clause-by_trace g c =
+returns-clause-by_trace g c = λ command asking.
     let before = g.F.Folder.state c.args.folder.now in
     let middle = g.F.Folder.state c.map_text.new.folder in
     let found = subst (λ r. FindsMapText before r middle) c.in-Ok.is c.map_text.ensures in
-    subst (λ held. FitsTrace (IfErr c.checked_by.result IsRefusal) c.args.config.now held (module_steps c.args.strictly) c.args.steps.now c.checked_by.new.steps)
-    found.found.looks.tree c.checked_by.ensures.by_trace
+    fits_earlier c.args.config.now before middle c.args.steps.now c.checked_by.new.steps command command refl
+    found.found.looks.tree (c.checked_by.ensures.by_trace command asking)

@@ -3,7 +3,6 @@ use Rattle.request_trace.specs.Showing.{Traced, gathered_of}
 use Rattle.generation.specs.declared.stop.Stop.{Stop}
 use Rattle.generation.specs.Generating.{Tracing}
 use Rattle.generator_core.proofs.Explainings.{trace_stops_why, no_report, explains}
-use Rattle.generator_core.proofs.StepsByTrace.{stopped_fits, trace_alone}
 use Rattle.generator_core.proofs.explaining.explained.Goals as goal
 
 pub returns-in-Err-clause-explains : goal.returns-in-Err-clause-explains
@@ -24,21 +23,3 @@ returns-clause-explains g c =
     let after = g.F.Folder.state c.traced.new.folder in
     explains c.args.path.now c.args.config.now before after c.in-Ok.trace (subst (λ (r : Result Traced Stop). Tracing c.args.config.now before (gathered_of r) after) c.in-Ok.is c.traced.ensures.traces)
     c.in-Ok-reported.ensures.shows c.in-Ok-reported.ensures.linked c.in-Ok-reported.ensures.modules c.in-Ok.ensures.entries c.in-Ok-reported.report c.in-Ok-reported.ensures.says
-
-pub returns-in-Err-clause-by_trace : goal.returns-in-Err-clause-by_trace
-returns-in-Err-clause-by_trace g c =
-    let before = g.F.Folder.state c.args.folder.now in
-    let after = g.F.Folder.state c.traced.new.folder in
-    stopped_fits c.args.config.now before after c.in-Err.stop (λ all. 0) c.args.steps.now c.traced.new.steps (subst (λ (r : Result Traced Stop). Tracing c.args.config.now before (gathered_of r) after) c.in-Err.is c.traced.ensures.traces)
-
-pub returns-in-Err-reported-clause-by_trace : goal.returns-in-Err-reported-clause-by_trace
-returns-in-Err-reported-clause-by_trace g c =
-    let before = g.F.Folder.state c.args.folder.now in
-    let after = g.F.Folder.state c.traced.new.folder in
-    trace_alone c.args.config.now before after _ c.in-Ok.trace c.traced.result c.args.steps.now c.traced.new.steps c.in-Ok.is c.traced.ensures.traces c.traced.ensures.steps
-
-pub returns-clause-by_trace : goal.returns-clause-by_trace
-returns-clause-by_trace g c =
-    let before = g.F.Folder.state c.args.folder.now in
-    let after = g.F.Folder.state c.traced.new.folder in
-    trace_alone c.args.config.now before after _ c.in-Ok.trace c.traced.result c.args.steps.now c.traced.new.steps c.in-Ok.is c.traced.ensures.traces c.traced.ensures.steps

@@ -3,7 +3,6 @@ use Rattle.request_trace.specs.Showing.{Traced, gathered_of}
 use Rattle.generation.specs.declared.stop.Stop.{Stop}
 use Rattle.generation.specs.Generating.{Tracing}
 use Rattle.generator_core.proofs.Listings.{trace_stops_list, no_list, lists}
-use Rattle.generator_core.proofs.StepsByTrace.{stopped_fits, trace_alone}
 use Rattle.generator_core.proofs.listing.listed.Goals as goal
 
 pub returns-in-Err-clause-lists : goal.returns-in-Err-clause-lists
@@ -23,21 +22,3 @@ returns-clause-lists g c =
     let before = g.F.Folder.state c.args.folder.now in
     let after = g.F.Folder.state c.traced.new.folder in
     lists c.args.config.now before after c.in-Ok.trace.gathered (subst (λ (r : Result Traced Stop). Tracing c.args.config.now before (gathered_of r) after) c.in-Ok.is c.traced.ensures.traces) _ refl c.in-Ok-module_text.ensures
-
-pub returns-in-Err-clause-by_trace : goal.returns-in-Err-clause-by_trace
-returns-in-Err-clause-by_trace g c =
-    let before = g.F.Folder.state c.args.folder.now in
-    let after = g.F.Folder.state c.traced.new.folder in
-    stopped_fits c.args.config.now before after c.in-Err.stop (λ all. 0) c.args.steps.now c.traced.new.steps (subst (λ (r : Result Traced Stop). Tracing c.args.config.now before (gathered_of r) after) c.in-Err.is c.traced.ensures.traces)
-
-pub returns-in-Err-module_text-clause-by_trace : goal.returns-in-Err-module_text-clause-by_trace
-returns-in-Err-module_text-clause-by_trace g c =
-    let before = g.F.Folder.state c.args.folder.now in
-    let after = g.F.Folder.state c.traced.new.folder in
-    trace_alone c.args.config.now before after _ c.in-Ok.trace c.traced.result c.args.steps.now c.traced.new.steps c.in-Ok.is c.traced.ensures.traces c.traced.ensures.steps
-
-pub returns-clause-by_trace : goal.returns-clause-by_trace
-returns-clause-by_trace g c =
-    let before = g.F.Folder.state c.args.folder.now in
-    let after = g.F.Folder.state c.traced.new.folder in
-    trace_alone c.args.config.now before after _ c.in-Ok.trace c.traced.result c.args.steps.now c.traced.new.steps c.in-Ok.is c.traced.ensures.traces c.traced.ensures.steps

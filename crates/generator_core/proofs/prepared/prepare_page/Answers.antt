@@ -3,6 +3,7 @@ use Rattle.page_spec.specs.Injection.{KeepsMapsOut, TakesMaps}
 use Rattle.generator_spec.specs.Commands.{IsPage}
 use Rattle.generator_core.specs.Preparing.{FindsPage}
 use Rattle.generator_core.proofs.Preparings.{page_refused, page_keeps_out, page_prepared}
+use Rattle.generator_core.proofs.StepsByTrace.{held_earlier, unspent_to_end}
 use Rattle.generator_core.proofs.prepared.prepare_page.Goals as goal
 
 pub returns-in-Err-clause-prepares : goal.returns-in-Err-clause-prepares
@@ -27,3 +28,16 @@ returns-clause-prepares g c =
     page_prepared c.args.config.now before middle after c.in-Ok.page c.prepare_at.result (subst (λ r. FindsPage c.args.config.now before r middle) c.in-Ok.is c.page_of.ensures) c.prepare_at.ensures.asked.once c.prepare_at.ensures.asked.footprint
     (λ stands. c.prepare_at.ensures.prepares (subst TakesMaps (sym same) c.in-Ok-site_of.ensures.takes)
     (subst (λ b. IfSome middle.holds (λ tree. IsPage tree c.args.config.now b)) (sym (same ∙ c.as_slice.ensures)) stands))
+
+pub returns-in-Err-clause-to_end : goal.returns-in-Err-clause-to_end
+returns-in-Err-clause-to_end g c = unspent_to_end c.args.config.now (g.F.Folder.state c.args.folder.now).holds c.args.steps.now
+
+pub returns-in-Err-site_of-clause-to_end : goal.returns-in-Err-site_of-clause-to_end
+returns-in-Err-site_of-clause-to_end g c = unspent_to_end c.args.config.now (g.F.Folder.state c.args.folder.now).holds c.args.steps.now
+
+pub returns-clause-to_end : goal.returns-clause-to_end
+returns-clause-to_end g c =
+    let before = g.F.Folder.state c.args.folder.now in
+    let middle = g.F.Folder.state c.page_of.new.folder in
+    let found = subst (λ r. FindsPage c.args.config.now before r middle) c.in-Ok.is c.page_of.ensures in
+    held_earlier c.args.config.now before middle c.args.steps.now c.prepare_at.new.steps found.found.looks.tree c.prepare_at.ensures.to_end

@@ -1,25 +1,20 @@
-use Rattle.std.proofs.Common.{◌≤◌, ◌≢◌, ◌+◌, ◌∷◌, [], ℕ, List, Bool, Option, IfSome, Result, refl, sym, subst, arith}
-use Rattle.std.specs.Prelude.{IfErr}
+use Rattle.std.proofs.Common.{◌≤◌, ◌≢◌, ◌+◌, ◌∷◌, [], ℕ, List, Bool, Option, IfSome, refl, subst, arith}
 use Rattle.tree_spec.specs.declared.LimitName.TheVariants.{Modules, Requests}
 use Rattle.tree_spec.specs.Limits.{limit_number}
 use Rattle.config_spec.specs.declared.Command.{Command}
 use Rattle.config_spec.specs.declared.Command.TheVariants.{CheckStrictly}
 use Rattle.generator_spec.specs.Asked.{AsksFew, own_file}
-use Rattle.generator_spec.specs.Commands.{IsGenerating, map_path}
+use Rattle.generator_spec.specs.Commands.{map_path}
 use Rattle.generator_spec.specs.Ending.{Ends}
 use Rattle.generator_spec.proofs.Strictnesses.{checking_or_generating}
-use Rattle.generator_spec.specs.Steps.{IsUnfaulted}
 use Rattle.trace_spec.specs.Modules.{Config}
 use Rattle.tree_spec.specs.States.{FolderState, SinkState}
 use Rattle.tree_spec.specs.Trees.{Tree}
-use Rattle.generation.specs.declared.stop.Stop.{Stop}
-use Rattle.generator_core.specs.declared.checking.Report.{Report}
 use Rattle.generator_core.specs.Checking.{AsksGrammar, AsksGrammar as asks, Checks}
-use Rattle.generator_core.specs.Spending.{FitsOrder, FitsTrace, IsRefusal, OrderSpends}
-use Rattle.generator_core.specs.Strictness.{further_steps, module_steps}
+use Rattle.generator_core.specs.Spending.{OrderSpends}
+use Rattle.generator_core.specs.Strictness.{further_steps}
 use Rattle.generator_core.proofs.Checkings.{asks_checking, check_ends}
 use Rattle.generator_core.proofs.Endings.{stop_end}
-use Rattle.generator_core.proofs.StepsByTrace.{checking_fits, told_fits, told_refusal}
 use Rattle.generator_core.proofs.running.check.Goals as goal
 
 -- a check takes no more steps than it may, and says nothing of a map that is written
@@ -44,11 +39,6 @@ check_spends command strictly out out_after result steps later asking bounded = 
   strictly = more_steps command strictly steps later asking bounded;
 }
 
-check_fits : (command : Command) (strictly : Bool) (config : Config) (holds : Option Tree) (ends : Result Report Stop) (result steps later : ℕ) → AsksGrammar command strictly
-    → (IsUnfaulted result → IfErr ends IsRefusal) → FitsTrace (IfErr ends IsRefusal) config holds (module_steps strictly) steps later → FitsOrder command config holds result steps later
-check_fits command strictly config holds ends result steps later asking how fits =
-    told_fits command config holds (IfErr ends IsRefusal) result steps later how (checking_fits command strictly (IfErr ends IsRefusal) config holds steps later asking fits)
-
 -- the map's file is the command's own
 file_asked :
     (command : Command) (strictly : Bool) (config : Config) (holds : Option Tree) (told : Option (List (List ℕ)))
@@ -67,7 +57,7 @@ returns-in-Ok g c = λ command asking.
       end = λ words is_config. check_ends words command c.args.config.now _ _ _ _ _ c.in-Ok.report is_config (subst (λ r. Checks command c.args.config.now before r after) c.in-Ok.is checks).reported (subst (λ text. Ends c.in-Ok.report.status text (g.O.Sink.state c.args.out.now) (g.O.Sink.state c.tell.new.out) c.tell.result) c.as_slice.ensures.value c.tell.ensures.ends) c.tell.ensures.later;
       asked = file_asked command c.args.strictly c.args.config.now before.holds before.asked after asking checks.asked;
       spends = check_spends command c.args.strictly _ _ _ _ _ asking c.checked.ensures.bounded;
-      by_trace = check_fits command c.args.strictly c.args.config.now before.holds c.checked.result _ _ _ asking (λ unfaulted. subst (λ r. IfErr r IsRefusal) (sym c.in-Ok.is) tt) c.checked.ensures.by_trace;
+      by_trace = c.checked.ensures.by_trace command asking;
     }
 
 pub returns-in-Err : goal.returns-in-Err
@@ -79,5 +69,5 @@ returns-in-Err g c = λ command asking.
       end = λ words is_config. stop_end words command c.args.config.now _ _ _ _ _ is_config c.in-Err.stop (subst (λ r. Checks command c.args.config.now before r after) c.in-Err.is checks).stopped c.close.ensures.tells c.close.ensures.later;
       asked = file_asked command c.args.strictly c.args.config.now before.holds before.asked after asking checks.asked;
       spends = check_spends command c.args.strictly _ _ _ _ _ asking c.checked.ensures.bounded;
-      by_trace = check_fits command c.args.strictly c.args.config.now before.holds c.checked.result _ _ _ asking (λ unfaulted. subst (λ r. IfErr r IsRefusal) (sym c.in-Err.is) (told_refusal c.in-Err.stop _ _ _ c.close.ensures.tells unfaulted)) c.checked.ensures.by_trace;
+      by_trace = c.checked.ensures.by_trace command asking;
     }

@@ -65,8 +65,8 @@ returns-in-Ok-clause-by_trace g c =
     let at =
     explains_project words c.args.path.now is before middle c.in-Ok.config
     (subst (λ r. FindsConfig refresh_words Refresh before r middle) c.in-Ok.is (c.configured.ensures refresh_words refreshes)) in
-    order_fits words c.in-Ok.config before _ _ _ Why (λ same. absurd (cc)) at.found.is
-    (fits_earlier c.in-Ok.config before middle _ _ _ Why Why refl at.found.looks.tree c.tell_why.ensures.by_trace)
+    order_fits words c.in-Ok.config before _ _ Why at.found.is
+    (fits_earlier c.in-Ok.config before middle _ _ Why Why refl at.found.looks.tree c.tell_why.ensures.by_trace)
 
 pub returns-in-Err-clause-by_trace : goal.returns-in-Err-clause-by_trace
-returns-in-Err-clause-by_trace g c = λ words is. unspent_words words (g.F.Folder.state c.args.folder.now).holds _ _
+returns-in-Err-clause-by_trace g c = λ words is. unspent_words words (g.F.Folder.state c.args.folder.now).holds _

@@ -67,8 +67,8 @@ returns-in-Ok-clause-by_trace g c =
     let before = g.F.Folder.state c.args.folder.now in
     let middle = g.F.Folder.state c.configured.new.folder in
     let at = subst (λ r. FindsConfig words (command_ordered c.args.order) before r middle) c.in-Ok.is (c.configured.ensures words is) in
-    order_fits words c.in-Ok.config before _ _ _ (command_ordered c.args.order) (not_vendor c.args.order) at.found.is
-    (fits_earlier c.in-Ok.config before middle _ _ _ (command_ordered c.args.order) c.command-command.result c.command-command.ensures at.found.looks.tree c.commanded.ensures.by_trace)
+    order_fits words c.in-Ok.config before _ _ (command_ordered c.args.order) at.found.is
+    (fits_earlier c.in-Ok.config before middle _ _ (command_ordered c.args.order) c.command-command.result c.command-command.ensures at.found.looks.tree c.commanded.ensures.by_trace)
 
 pub returns-in-Err-clause-by_trace : goal.returns-in-Err-clause-by_trace
-returns-in-Err-clause-by_trace g c = λ words is. unspent_words words (g.F.Folder.state c.args.folder.now).holds _ _
+returns-in-Err-clause-by_trace g c = λ words is. unspent_words words (g.F.Folder.state c.args.folder.now).holds _

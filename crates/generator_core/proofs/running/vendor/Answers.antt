@@ -1,4 +1,4 @@
-use Rattle.std.proofs.Common.{rules, subst}
+use Rattle.std.proofs.Common.{rules, refl, subst}
 use Rattle.config_spec.specs.declared.Command.TheVariants.{Refresh, Vendor}
 use Rattle.generator_spec.specs.Asked.{AsksInOrder}
 use Rattle.generator_spec.specs.Commands.{SaysCounts}
@@ -8,7 +8,7 @@ use Rattle.generator_core.proofs.Endings.{config_stop_end, ends_from, stop_spend
 use Rattle.generator_core.proofs.CopiesTold.{copies_ask, vendors_no_project, vendors_project, vendor_command}
 use Rattle.generator_core.proofs.HeldSessions.{refreshes}
 use Rattle.generator_core.proofs.Runs.{config_still, for_all_words, project_asks}
-use Rattle.generator_core.proofs.StepsByTrace.{copies_earlier, copies_fit, unspent_words}
+use Rattle.generator_core.proofs.StepsByTrace.{fits_earlier, order_fits, unspent_words}
 use Rattle.generator_core.proofs.running.vendor.Goals as goal
 
 pub tell_copies-requires : goal.tell_copies-requires
@@ -68,8 +68,8 @@ returns-in-Ok-clause-by_trace g c =
     let at =
     vendors_project words c.args.to.now is before middle c.in-Ok.config
     (subst (λ r. FindsConfig refresh_words Refresh before r middle) c.in-Ok.is (c.configured.ensures refresh_words refreshes)) in
-    copies_fit words c.in-Ok.config before _ _ _ at.found.is
-    (copies_earlier c.in-Ok.config before middle _ _ _ at.found.looks.tree c.tell_copies.ensures.by_trace)
+    order_fits words c.in-Ok.config before _ _ Vendor at.found.is
+    (fits_earlier c.in-Ok.config before middle _ _ Vendor Vendor refl at.found.looks.tree c.tell_copies.ensures.by_trace)
 
 pub returns-in-Err-clause-by_trace : goal.returns-in-Err-clause-by_trace
-returns-in-Err-clause-by_trace g c = λ words is. unspent_words words (g.F.Folder.state c.args.folder.now).holds _ _
+returns-in-Err-clause-by_trace g c = λ words is. unspent_words words (g.F.Folder.state c.args.folder.now).holds _

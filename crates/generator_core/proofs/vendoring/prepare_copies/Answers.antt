@@ -1,15 +1,14 @@
-use Rattle.std.proofs.Common.{Result, ◌+◌, refl, subst, sym}
+use Rattle.std.proofs.Common.{Result, refl, subst, sym}
 use Rattle.std.specs.Prelude.{IfOk}
 use Rattle.tree_vendor.specs.Planning.{Plans}
 use Rattle.request_trace.specs.Footprints.{IsFootprint}
 use Rattle.request_trace.specs.Showing.{Traced}
-use Rattle.request_trace.specs.Tracing.{TakesSteps}
 use Rattle.generation.specs.declared.generated.Generated.{Generated}
 use Rattle.generation.specs.declared.stop.Stop.{Stop}
 use Rattle.generation.specs.Generating.{GeneratingOver, generated_of}
+use Rattle.generation.proofs.Generatings.{steps_fresh}
 use Rattle.generator_core.specs.Vendoring.{IsFree}
-use Rattle.generator_core.proofs.StepsByTrace.{never_fits}
-use Rattle.generator_core.proofs.Vendorings.{copies_few, no_plan, not_free, not_generated, prepared}
+use Rattle.generator_core.proofs.Vendorings.{no_plan, not_free, not_generated, prepared}
 use Rattle.generator_core.proofs.vendoring.prepare_copies.Goals as goal
 
 pub returns-in-Err-clause-prepares : goal.returns-in-Err-clause-prepares
@@ -78,30 +77,22 @@ returns-in-Ok-plan-clause-prepares g c =
     (record { known = later; plan = c.in-Ok-plan.plan }) refl
     (subst (Plans c.footprint.result.now later c.args.to.now) c.in-Ok-plan.is c.plan.ensures)
 
-pub returns-in-Err-clause-by_trace : goal.returns-in-Err-clause-by_trace
-returns-in-Err-clause-by_trace g c =
-    never_fits c.args.config.now (g.F.Folder.state c.args.folder.now).holds (λ all. 0) c.args.steps.now c.generate_traced.new.steps
+pub returns-in-Err-clause-to_end : goal.returns-in-Err-clause-to_end
+returns-in-Err-clause-to_end g c =
+    steps_fresh c.args.config.now (g.F.Folder.state c.args.folder.now) (g.F.Folder.state c.generate_traced.new.folder) c.new-known.result c.generate_traced.new.known
+    (record { kept = c.new-known.ensures.kept; laid = c.new-known.ensures.laid }) _ _ c.generate_traced.ensures.to_end
 
-pub returns-in-Err-look_free-clause-by_trace : goal.returns-in-Err-look_free-clause-by_trace
-returns-in-Err-look_free-clause-by_trace g c =
-    never_fits c.args.config.now (g.F.Folder.state c.args.folder.now).holds (λ all. 0) c.args.steps.now c.generate_traced.new.steps
+pub returns-in-Err-look_free-clause-to_end : goal.returns-in-Err-look_free-clause-to_end
+returns-in-Err-look_free-clause-to_end g c =
+    steps_fresh c.args.config.now (g.F.Folder.state c.args.folder.now) (g.F.Folder.state c.generate_traced.new.folder) c.new-known.result c.generate_traced.new.known
+    (record { kept = c.new-known.ensures.kept; laid = c.new-known.ensures.laid }) _ _ c.generate_traced.ensures.to_end
 
-pub returns-in-Err-plan-clause-by_trace : goal.returns-in-Err-plan-clause-by_trace
-returns-in-Err-plan-clause-by_trace g c =
-    never_fits c.args.config.now (g.F.Folder.state c.args.folder.now).holds (λ all. 0) c.args.steps.now c.generate_traced.new.steps
+pub returns-in-Err-plan-clause-to_end : goal.returns-in-Err-plan-clause-to_end
+returns-in-Err-plan-clause-to_end g c =
+    steps_fresh c.args.config.now (g.F.Folder.state c.args.folder.now) (g.F.Folder.state c.generate_traced.new.folder) c.new-known.result c.generate_traced.new.known
+    (record { kept = c.new-known.ensures.kept; laid = c.new-known.ensures.laid }) _ _ c.generate_traced.ensures.to_end
 
-pub returns-in-Ok-plan-clause-by_trace : goal.returns-in-Ok-plan-clause-by_trace
-returns-in-Ok-plan-clause-by_trace g c =
-    let before = g.F.Folder.state c.args.folder.now in
-    let middle = g.F.Folder.state c.generate_traced.new.folder in
-    let known = c.new-known.result in
-    let later = c.generate_traced.new.known in
-    let over =
-    subst (λ (r : Result (Generated × Traced) Stop). GeneratingOver c.args.config.now before known (generated_of r) middle later)
-    c.in-Ok.is c.generate_traced.ensures.generates in
-    let takes =
-    subst (λ (r : Result (Generated × Traced) Stop). TakesSteps r (λ found. found.0.modules + found.0.requests) c.args.steps.now c.generate_traced.new.steps)
-    c.in-Ok.is c.generate_traced.ensures.steps in
-    copies_few c.args.to.now c.args.config.now before middle known later
-    (record { kept = c.new-known.ensures.kept; laid = c.new-known.ensures.laid }) c.in-Ok._generated over _ c.args.steps.now c.generate_traced.new.steps
-    takes.counted
+pub returns-in-Ok-plan-clause-to_end : goal.returns-in-Ok-plan-clause-to_end
+returns-in-Ok-plan-clause-to_end g c =
+    steps_fresh c.args.config.now (g.F.Folder.state c.args.folder.now) (g.F.Folder.state c.generate_traced.new.folder) c.new-known.result c.generate_traced.new.known
+    (record { kept = c.new-known.ensures.kept; laid = c.new-known.ensures.laid }) _ _ c.generate_traced.ensures.to_end
