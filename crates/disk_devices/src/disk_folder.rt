@@ -31,7 +31,10 @@ pub struct DiskFolder<'a, R> {
 
 impl<'a, R> DiskFolder<'a, R> {
     /// The folder with this name on the disk, which has not failed yet.
-    pub fn new(rt: R, alloc: Global, root: &'a str) -> DiskFolder<'a, R> {
+    pub fn new(rt: R, alloc: Global, root: &'a str) -> DiskFolder<'a, R>
+        ensures looks { result.look_faults ≡ 0 }
+        ensures writes { result.write_faults ≡ 0 }
+    {
         DiskFolder {
             disk: Disk {
                 rt,

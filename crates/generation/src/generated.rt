@@ -93,6 +93,7 @@ pub fn generate_traced<F: Folder, L: Ledger>(
     ensures generates { GeneratingOver config.now (F.state folder.old) known.old (generated_of result)
         (F.state folder.new) known.new }
     ensures page { IfOk result (λ found. PageIsFile config.now) }
+    ensures of_trace { IfOk result (λ found. IsMapOf config.now found.1.gathered found.0) }
     ensures footprint { IfOk result (λ found. IsFootprint config.now (F.state folder.old) known.old known.new
         found.1.footprint) }
     ensures steps { TakesSteps result (λ found. found.0.modules + found.0.requests) steps.old steps.new }
