@@ -5,7 +5,7 @@ use Rattle.tree_spec.specs.Limits.{limit_number}
 use Rattle.config_spec.specs.declared.Command.{Command}
 use Rattle.config_spec.specs.declared.Command.TheVariants.{CheckStrictly}
 use Rattle.generator_spec.specs.Asked.{AsksFew, own_file}
-use Rattle.generator_spec.specs.Commands.{IsGenerating, map_path}
+use Rattle.generator_spec.specs.Commands.{map_path}
 use Rattle.generator_spec.specs.Ending.{Ends}
 use Rattle.generator_spec.proofs.Strictnesses.{checking_or_generating}
 use Rattle.generator_spec.specs.Steps.{IsUnfaulted}
