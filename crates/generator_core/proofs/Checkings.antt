@@ -37,7 +37,7 @@ use Rattle.generator_spec.specs.declared.MapFileFault.TheVariants as map_fault
 use Rattle.generator_spec.specs.declared.Refusal.TheVariants.{MapFile, NestedTooDeep}
 use Rattle.generator_spec.specs.Checking.{no_need, need_at, spelling_at, difference_line, difference_lines, SaysOfModules, SaysOfModules as of_modules, AreLined, AreLined as lined_as, check_lines}
 use Rattle.generator_spec.specs.Commands.{map_path, map_file_limit, map_file_fault, IsMapText, ReadsMap, HoldsMap, RefusesMapFile, RefusesMapFile as refuses_map}
-use Rattle.generator_spec.specs.Commands.{IsChecking, IsChecking as checking, Opens as opens, Refuses, Refuses as refuses, IsRefusalOf as kind}
+use Rattle.generator_spec.specs.Commands.{IsChecking, IsChecking as checking, Opens as opens, Refuses as refuses, IsRefusalOf as kind}
 use Rattle.config_spec.specs.Projects.{IsConfigOf}
 use Rattle.generator_spec.specs.Outcome.{ComesTo as comes, Outcome}
 use Rattle.generator_spec.specs.Ending.{IsDifference, IsStrictLine, IsStrictLine as lined, AreStrictLines, AreStrictLines as are, IsDone, IsDone as done, Says, Ends, EndsAs, Shaped as shaped, Says as says}
@@ -48,7 +48,7 @@ use Rattle.generation.specs.Generating.{Tracing}
 use Rattle.generator_core.specs.declared.checking.Report.{Report}
 use Rattle.generator_spec.specs.Asked.{AsksOwn}
 use Rattle.generator_core.specs.Preparing.{EndsBefore}
-use Rattle.generator_core.specs.Checking.{AsksGrammar, AsksGrammar as asks, IsMapTextFound, FindsMapText, IsMapStop, FindsMap, IsReport, IsReportOf, IsReportStop, Reports}
+use Rattle.generator_core.specs.Checking.{AsksGrammar, AsksGrammar as asks, IsMapTextFound, FindsMapText, IsMapStop, FindsMap, IsReport, IsReportStop, Reports}
 use Rattle.generator_core.specs.Checking.{IsHeldAndTraced, IsReported, ChecksBy, Checks, IsMapStop as map_stop, IsReportStop as report_stop}
 use Rattle.generator_core.specs.Strictness.{IsStrictStop, IsStrictStop as strict_stop}
 use Rattle.generator_core.proofs.Strictnesses.{nested_somewhere}

@@ -10,7 +10,6 @@ use Rattle.trace_spec.specs.Modules.{Config}
 use Rattle.words_spec.proofs.PlainIsRead.{one_asked}
 use Rattle.words_spec.specs.PlainWords.{vendoring}
 use Rattle.config_spec.proofs.WordsJudged.{path_vendored}
-use Rattle.config_spec.specs.declared.Command.{Command}
 use Rattle.config_spec.specs.declared.Command.TheVariants.{Refresh, Vendor}
 use Rattle.config_spec.specs.Projects.{project_path, IsConfigOf}
 use Rattle.config_spec.specs.Words.{command_of, IsCommandOf, VendorsTo}

@@ -1,5 +1,5 @@
-use Rattle.std.proofs.Common.{◌≤◌, sym, subst, ◌∙◌, arith}
-use Rattle.generator_core.proofs.Strictnesses.{all_lined, next_module, no_modules}
+use Rattle.std.proofs.Common.{sym, ◌∙◌, arith}
+use Rattle.generator_core.proofs.Strictnesses.{next_module, no_modules}
 use Rattle.generator_core.proofs.strictness.push_strict.Goals as goal
 
 pub loop-place-init : goal.loop-place-init

@@ -1,4 +1,3 @@
-use Rattle.std.proofs.Common.{◌∙◌, sym}
 use Rattle.generator_core.proofs.Strictnesses.{no_outline_fault}
 use Rattle.generator_core.proofs.strictness.said.Goals as goal
 
