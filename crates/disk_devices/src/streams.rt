@@ -30,7 +30,7 @@ impl<R> StdSource<R> {
 }
 
 impl<R: Read> Source for StdSource<R> {
-    ghost state = { λ source. record { left = None; faults = source.faults } };
+    ghost state = { λ source. record { left = None; latest = None; faults = source.faults } };
 
     fn take(&mut self, into: &mut [u8]) -> Result<usize, Failed>
         ensures read { IsReadInto (R.remaining self.old.input) into.old into.new result (R.remaining self.new.input) }

@@ -51,7 +51,7 @@ impl Pieces {
 impl Source for Pieces {
     ghost use Rattle.std.specs.Prelude.{None};
 
-    ghost state = { λ pieces. record { left = None; faults = pieces.faults } };
+    ghost state = { λ pieces. record { left = None; latest = None; faults = pieces.faults } };
 
     fn take(&mut self, into: &mut [u8]) -> Result<usize, Failed> {
         self.takes = self.takes.saturating_add(1);

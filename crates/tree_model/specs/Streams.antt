@@ -8,6 +8,7 @@ use Rattle.std.specs.Prelude.{◌≡◌, ◌≤◌, ◌<◌, ◌↔◌, ◌++◌
 use Rattle.std.specs.Prelude.{IfOk, OnOk, OnErr, IsErr}
 use Rattle.std.specs.List.{Contains}
 use Rattle.tree_spec.specs.Counts.{following}
+use Rattle.tree_spec.specs.States.{brought}
 use Rattle.tree_model.specs.declared.mem_source.MemSource.{MemSource}
 use Rattle.tree_model.specs.declared.mem_sink.MemSink.{MemSink}
 
@@ -19,6 +20,7 @@ left_of source = drop source.at source.bytes
 pub record IsFreshSource (source : MemSource) (bytes numbers : List ℕ) : Type 0 where
   pub left : left_of source ≡ bytes
   pub takes : source.takes ≡ 0
+  pub latest : source.latest ≡ 0
   pub faults : source.faults ≡ 0
   pub failing : source.failing ≡ numbers
 
@@ -36,6 +38,7 @@ pub record IsTakeOf {E : Type 0} (before : MemSource) (into filled : List ℕ) (
   pub untouched : OnErr result (filled ≡ into)
   pub stays : OnErr result (left_of after ≡ left_of before)
   pub number : after.takes ≡ following before.takes
+  pub latest : after.latest ≡ brought result
   pub listed : IsErr result ↔ Contains before.failing (following before.takes)
   pub failed : OnErr result (after.faults ≡ following before.faults)
   pub quiet : OnOk result (after.faults ≡ before.faults)

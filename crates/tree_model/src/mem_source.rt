@@ -12,6 +12,7 @@ pub struct MemSource {
     bytes: Bytes,
     at: usize,
     takes: u64,
+    latest: usize,
     faults: u64,
     failing: Listed<u64>,
     ghost within: { at ≤ length bytes },
@@ -28,6 +29,7 @@ impl MemSource {
             bytes: Bytes::of(alloc, bytes)?,
             at: 0,
             takes: 0,
+            latest: 0,
             faults: 0,
             failing: Listed::from_vec(Vec::from_slice(alloc, takes)?),
         })
@@ -37,18 +39,24 @@ impl MemSource {
 impl Source for MemSource {
     ghost use Rattle.tree_model.specs.Streams.{IsTakeOf};
 
-    ghost state = { λ source. record { left = Some (drop source.at source.bytes); faults = source.faults } };
+    ghost state = { λ source. record {
+      left = Some (drop source.at source.bytes);
+      latest = Some source.latest;
+      faults = source.faults;
+    } };
 
     fn take(&mut self, into: &mut [u8]) -> Result<usize, Failed>
         ensures { IsTakeOf self.old into.old into.new result self.new }
     {
         self.takes = self.takes.saturating_add(1);
+        self.latest = 0;
         if is_listed(self.failing.as_slice(), self.takes) {
             self.faults = self.faults.saturating_add(1);
             return Err(Failed);
         }
         let count = fill(into, &self.bytes.as_bytes()[self.at..]);
         self.at += count;
+        self.latest = count;
         Ok(count)
     }
 }

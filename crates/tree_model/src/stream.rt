@@ -6,7 +6,8 @@ pub struct Failed;
 
 /// A source of bytes.
 pub trait Source {
-    /// The bytes still to come, where they are told, and how many calls failed, up to the last number of its type.
+    /// The bytes still to come and how many the last take brought, where they are told, and how many calls failed, up to
+    /// the last number of its type.
     ghost state: { Self → SourceState };
 
     /// Moves what comes next into the beginning of `into`, and says how many bytes that was. None, although `into` has

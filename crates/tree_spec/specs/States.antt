@@ -3,10 +3,11 @@
 --     IsLooked before path limit result after  a look at a path
 --     OnlyLooks before after failed            calls that look and do nothing else, and whether one of them failed
 --     IsWritten before path bytes result after a write of a file
+--     brought result                           how many bytes a take brought
 --     IsTaken before into filled result after  what was moved from a source into a slice
 --     IsGiven before bytes result after        bytes that were given to a sink
 use Rattle.std.specs.Prelude.{◌≡◌, ◌≢◌, ◌≤◌, ◌<◌, ◌++◌, ℕ, List, [], length, take, drop, Option, Some, None, option_map}
-use Rattle.std.specs.Prelude.{Result, Err, is_ok, IfOk, IfSome, OnOk, OnErr, IsErrOf}
+use Rattle.std.specs.Prelude.{Result, Ok, Err, is_ok, IfOk, IfSome, OnOk, OnErr, IsErrOf}
 use Rattle.tree_spec.specs.declared.Entry.TheVariants.{Stored}
 use Rattle.tree_spec.specs.declared.Look.{Look}
 use Rattle.tree_spec.specs.declared.LookFault.{LookFault}
@@ -22,9 +23,10 @@ pub record FolderState : Type 0 where
   pub look_faults : ℕ
   pub write_faults : ℕ
 
--- own: the bytes still to come, where they are told
+-- own: the bytes still to come, and how many the last take brought (none before the first), where they are told
 pub record SourceState : Type 0 where
   pub left : Option (List ℕ)
+  pub latest : Option ℕ
   pub faults : ℕ
 
 -- own: the bytes taken so far, where they are told
@@ -64,6 +66,11 @@ pub record IsWritten {E : Type 0} (before : FolderState) (path bytes : List ℕ)
   pub later : before.write_faults ≤ after.write_faults
   pub looks : after.look_faults ≡ before.look_faults
 
+-- own: how many bytes a take brought
+abbrev pub brought : {E : Type 0} → Result ℕ E → ℕ
+brought (Ok count) = count
+brought (Err failed) = 0
+
 -- own: what comes next was moved into the beginning of the slice. None, although the slice has room, means that
 -- nothing is left
 pub record IsTaken {E : Type 0} (before : SourceState) (into filled : List ℕ) (result : Result ℕ E)
@@ -76,6 +83,7 @@ pub record IsTaken {E : Type 0} (before : SourceState) (into filled : List ℕ) 
   pub behind : IfOk result (λ count. drop count filled ≡ drop count into)
   pub untouched : OnErr result (filled ≡ into)
   pub stays : OnErr result (after.left ≡ before.left)
+  pub latest : after.latest ≡ option_map (λ earlier. brought result) before.latest
   pub failed : OnErr result (Rose before.faults after.faults)
   pub quiet : OnOk result (after.faults ≡ before.faults)
   pub later : before.faults ≤ after.faults
