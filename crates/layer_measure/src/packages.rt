@@ -3,7 +3,7 @@ ghost use Rattle.std.specs.Prelude.{◌≡◌, ◌<◌};
 use condition_match::Conditions;
 use disk_devices::DiskFolder;
 use node_resolve::{NodeFault, resolve};
-use package_lookup::{Known, Trail};
+use package_lookup::{Known, Lookup, Trail};
 use shared_types::Steps;
 use std::alloc::Global;
 use std::marker::Brand;
@@ -45,9 +45,7 @@ impl Counts {
 /// The counts with the answer to one pair; where what asks isn't a path, they stay as they are.
 fn with_pair<F: Folder, L: Ledger>(
     alloc: Global,
-    known: &mut Known,
-    folder: &mut F,
-    trail: &mut Trail,
+    lookup: &mut Lookup<'_, F>,
     pair: (&str, &str),
     conditions: &Conditions,
     steps: &mut Steps<L>,
@@ -58,9 +56,7 @@ fn with_pair<F: Folder, L: Ledger>(
         Err(PathFault::BadPath) => return Ok(counts),
         Err(PathFault::Memory) => return Err(NodeFault::Memory),
     };
-    match resolve(
-        alloc, known, folder, trail, &parent, pair.1, conditions, steps,
-    ) {
+    match resolve(alloc, lookup, &parent, pair.1, conditions, steps) {
         Ok(_) => Ok(counts.with_module()),
         Err(NodeFault::Refused(_)) => Ok(counts.with_refusal()),
         Err(fault) => Err(fault),
@@ -77,12 +73,15 @@ fn round<F: Folder, L: Ledger>(
     steps: &mut Steps<L>,
 ) -> Result<Counts, NodeFault> {
     let mut trail = Trail::new(alloc);
+    let mut lookup = Lookup {
+        known,
+        folder,
+        trail: &mut trail,
+    };
     let mut counts = Counts::none();
     for line in pairs.lines() {
         if let Some(pair) = line.split_once(' ') {
-            counts = with_pair(
-                alloc, known, folder, &mut trail, pair, conditions, steps, counts,
-            )?;
+            counts = with_pair(alloc, &mut lookup, pair, conditions, steps, counts)?;
         }
     }
     Ok(counts)

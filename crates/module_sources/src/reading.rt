@@ -1,13 +1,13 @@
 ghost use Rattle.std.specs.Prelude.{◌≡◌, ◌≤◌, ◌+◌, Bool, ℕ, List, Some, Result, Ok, Err, IfOk};
 ghost use Rattle.std.specs.Str.{is_utf8};
 ghost use Rattle.tree_spec.specs.declared.Entry.TheVariants.{Stored};
-ghost use Rattle.tree_spec.specs.LookLimits.{begun};
 ghost use Rattle.module_spec.specs.OutlineReading.{read_outline};
 ghost use Rattle.node_spec.specs.EsmFileFormat as formats;
 ghost use Rattle.node_spec.specs.NodeAnswers.{Refusal};
 ghost use Rattle.trace_spec.specs.Questions as spec;
-ghost use Rattle.package_lookup.specs.Answered.{state, Answered};
+ghost use Rattle.package_lookup.specs.Answered.{Answered};
 ghost use Rattle.package_lookup.specs.Formats.{by_format};
+ghost use Rattle.package_lookup.specs.Lookups.{begun_of, state_of, IsSameLookup};
 ghost use Rattle.package_lookup.specs.Responses.{given, fails, never, by_fault, by_limit, looked};
 ghost use Rattle.package_lookup.specs.SeenLooks.{entry_of};
 ghost use Rattle.es_module_parser.specs.Faults.{IsFaultOf};
@@ -17,7 +17,7 @@ ghost use Rattle.module_sources.specs.Shown.{source_in, AreInside, FindsSource, 
 use crate::{NoSource, Source};
 use es_module_parser::{Outline, OutlineFault, outline};
 use node_spec::Reason;
-use package_lookup::{Format, Known, LookupFault, Seen, Trail, format_of};
+use package_lookup::{Format, Lookup, LookupFault, Seen, format_of};
 use shared_types::{Bytes, Memory, Steps};
 use std::alloc::{AllocError, Global};
 use std::rc::Rc;
@@ -29,20 +29,19 @@ use tree_spec::LimitName;
 /// the file is looked at. It takes one step at most.
 pub fn module_source<F: Folder, L: Ledger>(
     alloc: Global,
-    known: &mut Known,
-    folder: &mut F,
-    trail: &mut Trail,
+    lookup: &mut Lookup<'_, F>,
     path: &Path,
     steps: &mut Steps<L>,
 ) -> Result<Result<Source, NoSource>, LookupFault>
-    ensures answered { Answered (state (F.state folder.old) known.old (begun trail.old)) (spec.module_source path.now)
-        (looked source_in result) (state (F.state folder.new) known.new trail.new) }
+    ensures answered { Answered (begun_of F.state lookup.old) (spec.module_source path.now)
+        (looked source_in result) (state_of F.state lookup.new) }
     ensures cost { steps.new ≤ steps.old + 1 }
     ensures is { FindsSource result }
+    ensures same { IsSameLookup lookup.old lookup.new }
 {
-    match format_of(alloc, known, folder, trail, path) {
+    match format_of(alloc, lookup, path) {
         Err(fault) => without_format(fault),
-        Ok(format) => source_by_format(alloc, known, folder, trail, path, format, steps),
+        Ok(format) => source_by_format(alloc, lookup, path, format, steps),
     }
 }
 
@@ -72,22 +71,21 @@ fn above_limit(which: LimitName) -> Result<Result<Source, NoSource>, LookupFault
 // The source of a file with this format.
 fn source_by_format<F: Folder, L: Ledger>(
     alloc: Global,
-    known: &mut Known,
-    folder: &mut F,
-    trail: &mut Trail,
+    lookup: &mut Lookup<'_, F>,
     path: &Path,
     format: Format,
     steps: &mut Steps<L>,
 ) -> Result<Result<Source, NoSource>, LookupFault>
     ensures answered { (found : Result formats.Format Refusal) → by_format format ≡ given found
-        → Answered (state (F.state folder.old) known.old trail.old) (spec.by_format path.now found)
-        (looked source_in result) (state (F.state folder.new) known.new trail.new) }
+        → Answered (state_of F.state lookup.old) (spec.by_format path.now found)
+        (looked source_in result) (state_of F.state lookup.new) }
     ensures cost { steps.new ≤ steps.old + 1 }
     ensures is { FindsSource result }
+    ensures same { IsSameLookup lookup.old lookup.new }
 {
     match format {
-        Format::Module => read_module(alloc, known, folder, trail, path, false, steps),
-        Format::Detect => read_module(alloc, known, folder, trail, path, true, steps),
+        Format::Module => read_module(alloc, lookup, path, false, steps),
+        Format::Detect => read_module(alloc, lookup, path, true, steps),
         Format::Not(reason) => Ok(Err(NoSource::NotModule { reason })),
     }
 }
@@ -95,19 +93,18 @@ fn source_by_format<F: Folder, L: Ledger>(
 // The source of the file at a path, where its format is that of a module or its text decides.
 fn read_module<F: Folder, L: Ledger>(
     alloc: Global,
-    known: &mut Known,
-    folder: &mut F,
-    trail: &mut Trail,
+    lookup: &mut Lookup<'_, F>,
     path: &Path,
     is_detected: bool,
     steps: &mut Steps<L>,
 ) -> Result<Result<Source, NoSource>, LookupFault>
-    ensures answered { Answered (state (F.state folder.old) known.old trail.old) (spec.read_module is_detected path.now)
-        (looked source_in result) (state (F.state folder.new) known.new trail.new) }
+    ensures answered { Answered (state_of F.state lookup.old) (spec.read_module is_detected path.now)
+        (looked source_in result) (state_of F.state lookup.new) }
     ensures cost { steps.new ≤ steps.old + 1 }
     ensures is { FindsSource result }
+    ensures same { IsSameLookup lookup.old lookup.new }
 {
-    match known.look(alloc, folder, path, trail) {
+    match lookup.known.look(alloc, lookup.folder, path, lookup.trail) {
         Err(fault) => Err(fault),
         Ok(seen) => Ok(source_seen(alloc, seen, is_detected, steps)?),
     }

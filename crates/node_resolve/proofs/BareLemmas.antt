@@ -117,9 +117,12 @@ pub names_keep : {F : Type 0} (gives : BareTexts F → List ℕ → BareAnswer �
     → ((old new : BareTexts F) (text : List ℕ) (answer : BareAnswer) → gives old text answer new → KeepsNames old new)
     → (old new : BareTexts F) (asked : List Call) → Calls gives old asked new → KeepsNames old new
 names_keep gives keeps old new asked calls = record {
-  known = calls_keep gives (λ b. b.known.ghost_name) (λ b n text answer gave. (keeps b n text answer gave).known) old new asked calls;
-  folder = calls_keep gives (λ b. b.folder.ghost_name) (λ b n text answer gave. (keeps b n text answer gave).folder) old new asked calls;
-  trail = calls_keep gives (λ b. b.trail.ghost_name) (λ b n text answer gave. (keeps b n text answer gave).trail) old new asked calls;
+  lookup = calls_keep gives (λ b. b.lookup.ghost_name) (λ b n text answer gave. (keeps b n text answer gave).lookup) old new asked calls;
+  same = record {
+    known = calls_keep gives (λ b. b.lookup.now.known.ghost_name) (λ b n text answer gave. (keeps b n text answer gave).same.known) old new asked calls;
+    folder = calls_keep gives (λ b. b.lookup.now.folder.ghost_name) (λ b n text answer gave. (keeps b n text answer gave).same.folder) old new asked calls;
+    trail = calls_keep gives (λ b. b.lookup.now.trail.ghost_name) (λ b n text answer gave. (keeps b n text answer gave).same.trail) old new asked calls;
+  };
   last = calls_keep gives (λ b. b.last.ghost_name) (λ b n text answer gave. (keeps b n text answer gave).last) old new asked calls;
 }
 

@@ -16,6 +16,7 @@ use Rattle.node_spec.specs.declared.BareAnswer.{BareAnswer}
 use Rattle.node_spec.specs.declared.BareAnswer.TheVariants.{Stop}
 use Rattle.node_spec.specs.declared.Outcome.{Outcome}
 use Rattle.package_lookup.specs.Answered.{State, Answered}
+use Rattle.package_lookup.specs.Lookups.{IsSameLookup}
 use Rattle.package_lookup.specs.Responses.{Response, given, fails, Failing, passes, not_read, no_memory, never}
 use Rattle.node_resolve.specs.declared.bare_texts.BareTexts.{BareTexts}
 use Rattle.node_resolve.specs.declared.bare_texts.Refusal.{Refusal}
@@ -74,7 +75,6 @@ pub data GivesBare (ask : List ℕ → Resolving Url) (before : Kept) (text : Li
       → GivesBare ask before text answer after
 
 pub record KeepsNames {F : Type 0} (old new : BareTexts F) : Type 0 where
-  pub known : new.known.ghost_name ≡ old.known.ghost_name
-  pub folder : new.folder.ghost_name ≡ old.folder.ghost_name
-  pub trail : new.trail.ghost_name ≡ old.trail.ghost_name
+  pub lookup : new.lookup.ghost_name ≡ old.lookup.ghost_name
+  pub same : IsSameLookup old.lookup.now new.lookup.now
   pub last : new.last.ghost_name ≡ old.last.ghost_name

@@ -7,7 +7,8 @@ ghost use Rattle.node_spec.specs.PackageTargetResolve.{last_found, target_comes,
 ghost use Rattle.node_spec.specs.declared.Cause.TheVariants.{ImportNotDefined};
 ghost use Rattle.ordered_json.specs.Shown.{json_of};
 ghost use Rattle.condition_match.specs.Choosing.{judged_by};
-ghost use Rattle.package_lookup.specs.Answered.{state, Answered};
+ghost use Rattle.package_lookup.specs.Answered.{Answered};
+ghost use Rattle.package_lookup.specs.Lookups.{state_of, IsSameLookup};
 ghost use Rattle.package_lookup.specs.Responses.{itself};
 ghost use Rattle.node_resolve.specs.BareTexts.{chosen_shown, failing_of, found_shown};
 ghost use Rattle.node_resolve.specs.BareTexts.{last_shown, lost_by, split_shown, KeepsNames};
@@ -19,7 +20,7 @@ use crate::package_target_resolve::own_url;
 use condition_match::{BareTarget, Conditions, choose};
 use node_spec::{BareAnswer, Cause, Outcome};
 use ordered_json::Value;
-use package_lookup::{Known, Trail};
+use package_lookup::Lookup;
 use shared_types::Memory;
 use std::alloc::Global;
 use tree_model::{Folder, Path};
@@ -36,35 +37,31 @@ pub enum Refusal {
 /// Answers the bare texts of a target in `imports` from its package's folder. It keeps the answer to the last text, and
 /// what kept a text from being answered.
 #[derive(Drop)]
-struct BareTexts<'a, F: Folder> {
-    known: &'a mut Known,
-    folder: &'a mut F,
-    trail: &'a mut Trail,
-    package_folder: &'a Path,
-    conditions: &'a Conditions,
-    last: &'a mut Option<Result<FileUrl, Refusal>>,
+struct BareTexts<'a, 'b, F: Folder> {
+    lookup: &'b mut Lookup<'a, F>,
+    package_folder: &'b Path,
+    conditions: &'b Conditions,
+    last: &'b mut Option<Result<FileUrl, Refusal>>,
     fault: Option<NodeFault>,
 }
 
-impl<'a, F: Folder> BareTarget for BareTexts<'a, F> {
+impl<'a, 'b, F: Folder> BareTarget for BareTexts<'a, 'b, F> {
     ghost use Rattle.node_spec.specs.PackageResolve.{package_resolve};
     ghost use Rattle.node_resolve.specs.BareTexts.{kept, GivesBare, KeepsNames};
-    ghost use Rattle.package_lookup.specs.Answered.{state};
+    ghost use Rattle.package_lookup.specs.Lookups.{state_of};
 
     ghost gives = { λ old text answer new. KeepsNames old new × (new.package_folder ≡ old.package_folder)
         × (new.conditions ≡ old.conditions)
         × GivesBare (package_resolve old.conditions.now old.package_folder.now)
-        (kept (state (F.state old.folder.now) old.known.now old.trail.now) old.last.now old.fault) text answer
-        (kept (state (F.state new.folder.now) new.known.now new.trail.now) new.last.now new.fault) };
+        (kept (state_of F.state old.lookup.now) old.last.now old.fault) text answer
+        (kept (state_of F.state new.lookup.now) new.last.now new.fault) };
 
     ghost fails = { λ old text new. ⊥ };
 
     fn bare(&mut self, alloc: Global, text: &str) -> Result<BareAnswer, Memory> {
         let resolved = package_resolve(
             alloc,
-            self.known,
-            self.folder,
-            self.trail,
+            self.lookup,
             self.package_folder,
             text,
             self.conditions,
@@ -113,26 +110,23 @@ fn judge_bare(found: &Result<FileUrl, Refusal>) -> BareAnswer
 /// The URL that a target in `imports` gives in the package at a folder.
 pub fn import_target<F: Folder>(
     alloc: Global,
-    known: &mut Known,
-    folder: &mut F,
-    trail: &mut Trail,
+    lookup: &mut Lookup<'_, F>,
     package_folder: &Path,
     target: &Value,
     star: Option<&str>,
     conditions: &Conditions,
 ) -> Result<FileUrl, NodeFault>
-    ensures { Answered (state (F.state folder.old) known.old trail.old)
+    ensures answered { Answered (state_of F.state lookup.old)
         (package_target (bares_from conditions.now package_folder.now)
         (judged_by conditions.now (option_map (λ part. part.now) star.entry) true)
         package_folder.now ImportNotDefined (json_of target.now))
-        (responded itself result) (state (F.state folder.new) known.new trail.new) }
+        (responded itself result) (state_of F.state lookup.new) }
+    ensures same { IsSameLookup lookup.old lookup.new }
 {
     let mut last = None;
     match chosen(
         alloc,
-        known,
-        folder,
-        trail,
+        lookup,
         package_folder,
         target,
         star,
@@ -147,9 +141,7 @@ pub fn import_target<F: Folder>(
 /// What a target comes to. The answer to the bare text that was asked for last is put into `last`.
 fn chosen<F: Folder>(
     alloc: Global,
-    known: &mut Known,
-    folder: &mut F,
-    trail: &mut Trail,
+    lookup: &mut Lookup<'_, F>,
     package_folder: &Path,
     target: &Value,
     star: Option<&str>,
@@ -157,16 +149,15 @@ fn chosen<F: Folder>(
     last: &mut Option<Result<FileUrl, Refusal>>,
 ) -> Result<Outcome, NodeFault>
     requires { last.now ≡ None }
-    ensures answered { Answered (state (F.state folder.old) known.old trail.old)
+    ensures answered { Answered (state_of F.state lookup.old)
         (target_comes (bares_from conditions.now package_folder.now)
         (judged_by conditions.now (option_map (λ part. part.now) star.entry) true) (json_of target.now) None)
-        (chosen_shown result last.new) (state (F.state folder.new) known.new trail.new) }
+        (chosen_shown result last.new) (state_of F.state lookup.new) }
     ensures place { IfOk result BeginsWithDotSlash }
+    ensures same { IsSameLookup lookup.old lookup.new }
 {
     let mut bares = BareTexts {
-        known,
-        folder,
-        trail,
+        lookup,
         package_folder,
         conditions,
         last,
@@ -178,7 +169,7 @@ fn chosen<F: Folder>(
 /// The same by an object that was asked for nothing yet.
 fn chosen_by<F: Folder>(
     alloc: Global,
-    bares: &mut BareTexts<'_, F>,
+    bares: &mut BareTexts<'_, '_, F>,
     target: &Value,
     star: Option<&str>,
     conditions: &Conditions,
@@ -187,11 +178,11 @@ fn chosen_by<F: Folder>(
     requires fault { bares.now.fault ≡ None }
     ensures names { KeepsNames bares.old bares.new }
     ensures answered { Answered
-        (state (F.state bares.old.folder.now) bares.old.known.now bares.old.trail.now)
+        (state_of F.state bares.old.lookup.now)
         (target_comes (bares_from bares.old.conditions.now bares.old.package_folder.now)
         (judged_by conditions.now (option_map (λ part. part.now) star.entry) true) (json_of target.now) None)
         (chosen_shown result bares.new.last.now)
-        (state (F.state bares.new.folder.now) bares.new.known.now bares.new.trail.now) }
+        (state_of F.state bares.new.lookup.now) }
     ensures place { IfOk result BeginsWithDotSlash }
 {
     match choose(alloc, target, conditions, star, true, bares) {

@@ -1,11 +1,11 @@
 //! A specifier in a file (Node.js, ECMAScript modules: ESM_RESOLVE).
 ghost use Rattle.std.specs.Prelude.{◌≡◌, ◌+◌, true, IfOk};
 ghost use Rattle.url_spec.specs.Specifiers.{is_relative};
-ghost use Rattle.tree_spec.specs.LookLimits.{begun};
 ghost use Rattle.node_spec.specs.EsmResolve as spec;
 ghost use Rattle.node_spec.specs.FileLooks.{check_url, without_host};
 ghost use Rattle.node_spec.specs.Resolution.{joined_url};
-ghost use Rattle.package_lookup.specs.Answered.{state, Answered};
+ghost use Rattle.package_lookup.specs.Answered.{Answered};
+ghost use Rattle.package_lookup.specs.Lookups.{begun_of, state_of, IsSameLookup};
 ghost use Rattle.package_lookup.specs.Responses.{itself};
 ghost use Rattle.node_resolve.specs.Places.{module_of};
 ghost use Rattle.node_resolve.specs.Responses.{responded, Gives};
@@ -19,7 +19,7 @@ use crate::places::judged;
 use crate::texts::begins;
 use condition_match::Conditions;
 use node_spec::Cause;
-use package_lookup::{Known, Trail, folder_of};
+use package_lookup::{Lookup, folder_of};
 use shared_types::Steps;
 use std::alloc::Global;
 use std::sync::ledger::Ledger;
@@ -30,46 +30,44 @@ use web_url::{FileUrl, Scheme, file_url, is_relative, scheme_of};
 /// whose paths are the footprint, and takes one step.
 pub fn resolve<F: Folder, L: Ledger>(
     alloc: Global,
-    known: &mut Known,
-    folder: &mut F,
-    trail: &mut Trail,
+    lookup: &mut Lookup<'_, F>,
     parent: &Path,
     specifier: &str,
     conditions: &Conditions,
     steps: &mut Steps<L>,
 ) -> Result<Found, NodeFault>
-    ensures answered { Answered (state (F.state folder.old) known.old (begun trail.old))
+    ensures answered { Answered (begun_of F.state lookup.old)
         (spec.node conditions.now parent.now specifier.now)
-        (responded module_of result) (state (F.state folder.new) known.new trail.new) }
-    ensures footprint { IfOk result (λ found. found.footprint ≡ trail.new.question) }
+        (responded module_of result) (state_of F.state lookup.new) }
+    ensures footprint { IfOk result (λ found. found.footprint ≡ lookup.new.trail.now.question) }
     ensures cost { steps.new ≡ steps.old + 1 }
+    ensures same { IsSameLookup lookup.old lookup.new }
 {
     steps.tick();
-    trail.begin();
-    match specifier_url(alloc, known, folder, trail, parent, specifier, conditions) {
+    lookup.trail.begin();
+    match specifier_url(alloc, lookup, parent, specifier, conditions) {
         Err(fault) => Err(fault),
-        Ok(url) => found_at(alloc, known, folder, trail, &url),
+        Ok(url) => found_at(alloc, lookup, &url),
     }
 }
 
 /// The module at a URL, with the paths of the question.
 fn found_at<F: Folder>(
     alloc: Global,
-    known: &mut Known,
-    folder: &mut F,
-    trail: &mut Trail,
+    lookup: &mut Lookup<'_, F>,
     url: &FileUrl,
 ) -> Result<Found, NodeFault>
-    ensures answered { Answered (state (F.state folder.old) known.old trail.old) (spec.judged url.now)
-        (responded module_of result) (state (F.state folder.new) known.new trail.new) }
-    ensures footprint { IfOk result (λ found. found.footprint ≡ trail.new.question) }
+    ensures answered { Answered (state_of F.state lookup.old) (spec.judged url.now)
+        (responded module_of result) (state_of F.state lookup.new) }
+    ensures footprint { IfOk result (λ found. found.footprint ≡ lookup.new.trail.now.question) }
+    ensures same { IsSameLookup lookup.old lookup.new }
 {
-    match judged(alloc, known, folder, trail, url) {
+    match judged(alloc, lookup, url) {
         Err(fault) => Err(fault),
         Ok((path, suffix)) => Ok(Found {
             path,
             suffix,
-            footprint: copy_paths(alloc, trail.question())?,
+            footprint: copy_paths(alloc, lookup.trail.question())?,
         }),
     }
 }
@@ -77,46 +75,44 @@ fn found_at<F: Folder>(
 /// The URL of a specifier.
 fn specifier_url<F: Folder>(
     alloc: Global,
-    known: &mut Known,
-    folder: &mut F,
-    trail: &mut Trail,
+    lookup: &mut Lookup<'_, F>,
     parent: &Path,
     specifier: &str,
     conditions: &Conditions,
 ) -> Result<FileUrl, NodeFault>
-    ensures { Answered (state (F.state folder.old) known.old trail.old)
+    ensures answered { Answered (state_of F.state lookup.old)
         (spec.specifier_url conditions.now parent.now specifier.now)
-        (responded itself result) (state (F.state folder.new) known.new trail.new) }
+        (responded itself result) (state_of F.state lookup.new) }
+    ensures same { IsSameLookup lookup.old lookup.new }
 {
     match scheme_of(alloc, specifier)? {
         Scheme::Node => Err(NodeFault::Refused(Cause::Builtin)),
         Scheme::Other => Err(NodeFault::Refused(Cause::ExternalUrl)),
-        Scheme::NotUrl => no_url(alloc, known, folder, trail, parent, specifier, conditions),
+        Scheme::NotUrl => no_url(alloc, lookup, parent, specifier, conditions),
     }
 }
 
 /// The URL of a specifier that isn't one itself.
 fn no_url<F: Folder>(
     alloc: Global,
-    known: &mut Known,
-    folder: &mut F,
-    trail: &mut Trail,
+    lookup: &mut Lookup<'_, F>,
     parent: &Path,
     specifier: &str,
     conditions: &Conditions,
 ) -> Result<FileUrl, NodeFault>
-    ensures { Answered (state (F.state folder.old) known.old trail.old)
+    ensures answered { Answered (state_of F.state lookup.old)
         (spec.no_url conditions.now parent.now specifier.now)
-        (responded itself result) (state (F.state folder.new) known.new trail.new) }
+        (responded itself result) (state_of F.state lookup.new) }
+    ensures same { IsSameLookup lookup.old lookup.new }
 {
     if is_relative(specifier) {
         return relative_url(alloc, parent, specifier);
     }
     let from = folder_of(alloc, parent)?;
     if begins(specifier, "#") {
-        imports_resolve(alloc, known, folder, trail, &from, specifier, conditions)
+        imports_resolve(alloc, lookup, &from, specifier, conditions)
     } else {
-        package_resolve(alloc, known, folder, trail, &from, specifier, conditions)
+        package_resolve(alloc, lookup, &from, specifier, conditions)
     }
 }
 

@@ -6,7 +6,8 @@ ghost use Rattle.node_spec.specs.PackageImportsExportsResolve.{by_key};
 ghost use Rattle.node_spec.specs.PackageImportsResolve as spec;
 ghost use Rattle.ordered_json.specs.Lists.{pairs_of};
 ghost use Rattle.ordered_json.specs.Shown.{json_of, members_of};
-ghost use Rattle.package_lookup.specs.Answered.{state, Answered};
+ghost use Rattle.package_lookup.specs.Answered.{Answered};
+ghost use Rattle.package_lookup.specs.Lookups.{state_of, IsSameLookup};
 ghost use Rattle.package_lookup.specs.Responses.{itself};
 ghost use Rattle.node_resolve.specs.Responses.{responded};
 
@@ -18,7 +19,7 @@ use crate::texts::{begins, ends_in_slash};
 use condition_match::Conditions;
 use node_spec::Cause;
 use ordered_json::{Members, Value};
-use package_lookup::{Known, Trail, record_of, scope_of};
+use package_lookup::{Lookup, record_of, scope_of};
 use std::alloc::Global;
 use tree_model::{Folder, Path};
 use web_url::FileUrl;
@@ -26,24 +27,23 @@ use web_url::FileUrl;
 /// The URL that the package scope of a folder gives for a specifier that begins with `#`.
 pub fn imports_resolve<F: Folder>(
     alloc: Global,
-    known: &mut Known,
-    folder: &mut F,
-    trail: &mut Trail,
+    lookup: &mut Lookup<'_, F>,
     from: &Path,
     text: &str,
     conditions: &Conditions,
 ) -> Result<FileUrl, NodeFault>
-    ensures { Answered (state (F.state folder.old) known.old trail.old)
+    ensures answered { Answered (state_of F.state lookup.old)
         (spec.imports_resolve conditions.now from.now text.now)
-        (responded itself result) (state (F.state folder.new) known.new trail.new) }
+        (responded itself result) (state_of F.state lookup.new) }
+    ensures same { IsSameLookup lookup.old lookup.new }
 {
     if is_refused(text) {
         return Err(NodeFault::Refused(Cause::InvalidSpecifier));
     }
-    match scope_of(alloc, known, folder, trail, from) {
+    match scope_of(alloc, lookup, from) {
         Err(fault) => Err(behind(fault)),
         Ok(None) => Err(NodeFault::Refused(Cause::ImportNotDefined)),
-        Ok(Some(scope)) => imported_at(alloc, known, folder, trail, &scope, text, conditions),
+        Ok(Some(scope)) => imported_at(alloc, lookup, &scope, text, conditions),
     }
 }
 
@@ -57,55 +57,40 @@ fn is_refused(text: &str) -> bool
 
 fn imported_at<F: Folder>(
     alloc: Global,
-    known: &mut Known,
-    folder: &mut F,
-    trail: &mut Trail,
+    lookup: &mut Lookup<'_, F>,
     scope: &Path,
     text: &str,
     conditions: &Conditions,
 ) -> Result<FileUrl, NodeFault>
-    ensures { Answered (state (F.state folder.old) known.old trail.old)
+    ensures answered { Answered (state_of F.state lookup.old)
         (spec.imported_at conditions.now text.now (Some scope.now))
-        (responded itself result) (state (F.state folder.new) known.new trail.new) }
+        (responded itself result) (state_of F.state lookup.new) }
+    ensures same { IsSameLookup lookup.old lookup.new }
 {
-    match record_of(alloc, known, folder, trail, scope) {
+    match record_of(alloc, lookup, scope) {
         Err(fault) => Err(behind(fault)),
         Ok(None) => Err(NodeFault::Refused(Cause::ImportNotDefined)),
-        Ok(Some(of_scope)) => imported(
-            alloc,
-            known,
-            folder,
-            trail,
-            scope,
-            text,
-            &of_scope.imports,
-            conditions,
-        ),
+        Ok(Some(of_scope)) => imported(alloc, lookup, scope, text, &of_scope.imports, conditions),
     }
 }
 
 /// The URL by the `imports` of the package at a folder.
 fn imported<F: Folder>(
     alloc: Global,
-    known: &mut Known,
-    folder: &mut F,
-    trail: &mut Trail,
+    lookup: &mut Lookup<'_, F>,
     scope: &Path,
     text: &str,
     imports: &Value,
     conditions: &Conditions,
 ) -> Result<FileUrl, NodeFault>
     requires { HasDistinctNames (json_of imports.now) }
-    ensures { Answered (state (F.state folder.old) known.old trail.old)
+    ensures answered { Answered (state_of F.state lookup.old)
         (spec.imported conditions.now scope.now text.now (json_of imports.now))
-        (responded itself result) (state (F.state folder.new) known.new trail.new) }
+        (responded itself result) (state_of F.state lookup.new) }
+    ensures same { IsSameLookup lookup.old lookup.new }
 {
     match imports {
-        Value::Object(members) => {
-            import_at(
-                alloc, known, folder, trail, scope, text, members, conditions,
-            )
-        }
+        Value::Object(members) => { import_at(alloc, lookup, scope, text, members, conditions) }
         Value::Null => Err(NodeFault::Refused(Cause::ImportNotDefined)),
         Value::Bool(_) => Err(NodeFault::Refused(Cause::ImportNotDefined)),
         Value::Number(_) => Err(NodeFault::Refused(Cause::ImportNotDefined)),
@@ -117,23 +102,20 @@ fn imported<F: Folder>(
 /// The URL of the target of the key that is taken.
 fn import_at<F: Folder>(
     alloc: Global,
-    known: &mut Known,
-    folder: &mut F,
-    trail: &mut Trail,
+    lookup: &mut Lookup<'_, F>,
     scope: &Path,
     text: &str,
     members: &Members,
     conditions: &Conditions,
 ) -> Result<FileUrl, NodeFault>
     requires { AreDistinct (members_of (pairs_of members.now)) }
-    ensures { Answered (state (F.state folder.old) known.old trail.old)
+    ensures answered { Answered (state_of F.state lookup.old)
         (by_key (spec.import_paths conditions.now scope.now (members_of (pairs_of members.now))) text.now)
-        (responded itself result) (state (F.state folder.new) known.new trail.new) }
+        (responded itself result) (state_of F.state lookup.new) }
+    ensures same { IsSameLookup lookup.old lookup.new }
 {
     match target_of(members, text) {
         None => Err(NodeFault::Refused(Cause::ImportNotDefined)),
-        Some((target, star)) => import_target(
-            alloc, known, folder, trail, scope, target, star, conditions,
-        ),
+        Some((target, star)) => import_target(alloc, lookup, scope, target, star, conditions),
     }
 }

@@ -3,7 +3,8 @@ ghost use Rattle.std.specs.Prelude.{◌≡◌, Some, option_map};
 ghost use Rattle.json_spec.specs.Value.{HasDistinctNames};
 ghost use Rattle.node_spec.specs.PackageResolve as spec;
 ghost use Rattle.ordered_json.specs.Shown.{json_of};
-ghost use Rattle.package_lookup.specs.Answered.{state, Answered};
+ghost use Rattle.package_lookup.specs.Answered.{Answered};
+ghost use Rattle.package_lookup.specs.Lookups.{state_of, IsSameLookup};
 ghost use Rattle.package_lookup.specs.Responses.{itself};
 ghost use Rattle.package_record.specs.Shown.{record_shown};
 ghost use Rattle.node_resolve.specs.Asked.{subpath_of, IsSubpath};
@@ -20,7 +21,7 @@ use crate::package_self_resolve::{is_null, package_self_resolve};
 use crate::texts::{ends_in_slash, same};
 use condition_match::Conditions;
 use node_spec::Cause;
-use package_lookup::{Known, Trail, find_package, record_of};
+use package_lookup::{Lookup, find_package, record_of};
 use package_record::Package;
 use std::alloc::Global;
 use tree_model::{Folder, Path};
@@ -29,16 +30,15 @@ use web_url::FileUrl;
 /// The URL of a bare specifier, for a module in a folder.
 pub fn package_resolve<F: Folder>(
     alloc: Global,
-    known: &mut Known,
-    folder: &mut F,
-    trail: &mut Trail,
+    lookup: &mut Lookup<'_, F>,
     from: &Path,
     text: &str,
     conditions: &Conditions,
 ) -> Result<FileUrl, NodeFault>
-    ensures { Answered (state (F.state folder.old) known.old trail.old)
+    ensures answered { Answered (state_of F.state lookup.old)
         (spec.package_resolve conditions.now from.now text.now)
-        (responded itself result) (state (F.state folder.new) known.new trail.new) }
+        (responded itself result) (state_of F.state lookup.new) }
+    ensures same { IsSameLookup lookup.old lookup.new }
 {
     if same(text, "") {
         return Err(NodeFault::Refused(Cause::InvalidSpecifier));
@@ -51,58 +51,54 @@ pub fn package_resolve<F: Folder>(
     }
     match Subpath::of(alloc, text)? {
         None => Err(NodeFault::Refused(Cause::InvalidSpecifier)),
-        Some(asked) => resolve_name(alloc, known, folder, trail, from, &asked, conditions),
+        Some(asked) => resolve_name(alloc, lookup, from, &asked, conditions),
     }
 }
 
 /// The URL of a package's name with a subpath: the package itself goes before every `node_modules`.
 fn resolve_name<F: Folder>(
     alloc: Global,
-    known: &mut Known,
-    folder: &mut F,
-    trail: &mut Trail,
+    lookup: &mut Lookup<'_, F>,
     from: &Path,
     asked: &Subpath<'_>,
     conditions: &Conditions,
 ) -> Result<FileUrl, NodeFault>
     requires { IsSubpath asked.now.subpath }
-    ensures { Answered (state (F.state folder.old) known.old trail.old)
+    ensures answered { Answered (state_of F.state lookup.old)
         (spec.by_name conditions.now from.now (subpath_of asked.now))
-        (responded itself result) (state (F.state folder.new) known.new trail.new) }
+        (responded itself result) (state_of F.state lookup.new) }
+    ensures same { IsSameLookup lookup.old lookup.new }
 {
     if !is_package_name(asked.name) {
         return Err(NodeFault::Refused(Cause::InvalidSpecifier));
     }
-    match package_self_resolve(alloc, known, folder, trail, from, asked, conditions) {
+    match package_self_resolve(alloc, lookup, from, asked, conditions) {
         Err(fault) => Err(fault),
         Ok(Some(url)) => Ok(url),
-        Ok(None) => resolve_in_modules(alloc, known, folder, trail, from, asked, conditions),
+        Ok(None) => resolve_in_modules(alloc, lookup, from, asked, conditions),
     }
 }
 
 /// The same where the package isn't the one that asks.
 fn resolve_in_modules<F: Folder>(
     alloc: Global,
-    known: &mut Known,
-    folder: &mut F,
-    trail: &mut Trail,
+    lookup: &mut Lookup<'_, F>,
     from: &Path,
     asked: &Subpath<'_>,
     conditions: &Conditions,
 ) -> Result<FileUrl, NodeFault>
     requires { IsSubpath asked.now.subpath }
-    ensures { Answered (state (F.state folder.old) known.old trail.old)
+    ensures answered { Answered (state_of F.state lookup.old)
         (spec.in_modules conditions.now from.now (subpath_of asked.now))
-        (responded itself result) (state (F.state folder.new) known.new trail.new) }
+        (responded itself result) (state_of F.state lookup.new) }
+    ensures same { IsSameLookup lookup.old lookup.new }
 {
-    match find_package(alloc, known, folder, trail, from, asked.name) {
+    match find_package(alloc, lookup, from, asked.name) {
         Err(fault) => Err(behind(fault)),
         Ok(None) => Err(NodeFault::Refused(Cause::NotFound)),
         Ok(Some(package_folder)) => resolve_in_folder(
             alloc,
-            known,
-            folder,
-            trail,
+            lookup,
             &package_folder,
             asked.subpath.as_str(),
             conditions,
@@ -113,26 +109,23 @@ fn resolve_in_modules<F: Folder>(
 /// The URL of a subpath of the package in a folder.
 fn resolve_in_folder<F: Folder>(
     alloc: Global,
-    known: &mut Known,
-    folder: &mut F,
-    trail: &mut Trail,
+    lookup: &mut Lookup<'_, F>,
     package_folder: &Path,
     subpath: &str,
     conditions: &Conditions,
 ) -> Result<FileUrl, NodeFault>
     requires { IsSubpath subpath.now }
-    ensures { Answered (state (F.state folder.old) known.old trail.old)
+    ensures answered { Answered (state_of F.state lookup.old)
         (spec.in_folder conditions.now subpath.now (Some package_folder.now))
-        (responded itself result) (state (F.state folder.new) known.new trail.new) }
+        (responded itself result) (state_of F.state lookup.new) }
+    ensures same { IsSameLookup lookup.old lookup.new }
 {
-    match record_of(alloc, known, folder, trail, package_folder) {
+    match record_of(alloc, lookup, package_folder) {
         Err(fault) => Err(behind(fault)),
-        Ok(None) => resolve_file(alloc, known, folder, trail, package_folder, subpath, None),
+        Ok(None) => resolve_file(alloc, lookup, package_folder, subpath, None),
         Ok(Some(of_package)) => resolve_by_record(
             alloc,
-            known,
-            folder,
-            trail,
+            lookup,
             package_folder,
             subpath,
             &of_package,
@@ -143,9 +136,7 @@ fn resolve_in_folder<F: Folder>(
 
 fn resolve_by_record<F: Folder>(
     alloc: Global,
-    known: &mut Known,
-    folder: &mut F,
-    trail: &mut Trail,
+    lookup: &mut Lookup<'_, F>,
     package_folder: &Path,
     subpath: &str,
     of_package: &Package,
@@ -153,9 +144,10 @@ fn resolve_by_record<F: Folder>(
 ) -> Result<FileUrl, NodeFault>
     requires names { HasDistinctNames (json_of of_package.now.exports) }
     requires subpath { IsSubpath subpath.now }
-    ensures { Answered (state (F.state folder.old) known.old trail.old)
+    ensures answered { Answered (state_of F.state lookup.old)
         (spec.by_record conditions.now package_folder.now subpath.now (Some (record_shown of_package.now)))
-        (responded itself result) (state (F.state folder.new) known.new trail.new) }
+        (responded itself result) (state_of F.state lookup.new) }
+    ensures same { IsSameLookup lookup.old lookup.new }
 {
     if !is_null(&of_package.exports) {
         return exported(
@@ -167,36 +159,27 @@ fn resolve_by_record<F: Folder>(
         );
     }
     match &of_package.main {
-        None => resolve_file(alloc, known, folder, trail, package_folder, subpath, None),
-        Some(main) => resolve_file(
-            alloc,
-            known,
-            folder,
-            trail,
-            package_folder,
-            subpath,
-            Some(main.as_str()),
-        ),
+        None => resolve_file(alloc, lookup, package_folder, subpath, None),
+        Some(main) => resolve_file(alloc, lookup, package_folder, subpath, Some(main.as_str())),
     }
 }
 
 /// The URL of a subpath in a package without exports.
 fn resolve_file<F: Folder>(
     alloc: Global,
-    known: &mut Known,
-    folder: &mut F,
-    trail: &mut Trail,
+    lookup: &mut Lookup<'_, F>,
     package_folder: &Path,
     subpath: &str,
     main: Option<&str>,
 ) -> Result<FileUrl, NodeFault>
     requires { IsSubpath subpath.now }
-    ensures { Answered (state (F.state folder.old) known.old trail.old)
+    ensures answered { Answered (state_of F.state lookup.old)
         (spec.by_files package_folder.now subpath.now (option_map (λ text. text.now) main.entry))
-        (responded itself result) (state (F.state folder.new) known.new trail.new) }
+        (responded itself result) (state_of F.state lookup.new) }
+    ensures same { IsSameLookup lookup.old lookup.new }
 {
     if same(subpath, ".") {
-        return main_file(alloc, known, folder, trail, package_folder, main);
+        return main_file(alloc, lookup, package_folder, main);
     }
     let base = folder_url(alloc, package_folder)?;
     let found = join(alloc, &base, subpath)?;

@@ -4,7 +4,8 @@ ghost use Rattle.json_spec.specs.Value.{HasDistinctNames};
 ghost use Rattle.package_record.specs.Shown.{record_shown};
 ghost use Rattle.node_spec.specs.PackageSelfResolve.{has_name, is_null};
 ghost use Rattle.ordered_json.specs.Shown.{json_of};
-ghost use Rattle.package_lookup.specs.Answered.{state, Answered};
+ghost use Rattle.package_lookup.specs.Answered.{Answered};
+ghost use Rattle.package_lookup.specs.Lookups.{state_of, IsSameLookup};
 ghost use Rattle.package_lookup.specs.Responses.{itself};
 ghost use Rattle.node_resolve.specs.Asked.{subpath_of};
 ghost use Rattle.node_resolve.specs.Responses.{responded, Gives};
@@ -16,7 +17,7 @@ use crate::package_exports_resolve::exported;
 use crate::package_name::Subpath;
 use condition_match::Conditions;
 use ordered_json::Value;
-use package_lookup::{Known, Trail, record_of, scope_of};
+use package_lookup::{Lookup, record_of, scope_of};
 use package_record::Package;
 use std::alloc::Global;
 use tree_model::{Folder, Path};
@@ -25,38 +26,36 @@ use web_url::FileUrl;
 /// The URL that the package scope of a folder gives for its own name, where it has that name and exports.
 pub fn package_self_resolve<F: Folder>(
     alloc: Global,
-    known: &mut Known,
-    folder: &mut F,
-    trail: &mut Trail,
+    lookup: &mut Lookup<'_, F>,
     from: &Path,
     asked: &Subpath<'_>,
     conditions: &Conditions,
 ) -> Result<Option<FileUrl>, NodeFault>
-    ensures { Answered (state (F.state folder.old) known.old trail.old)
+    ensures answered { Answered (state_of F.state lookup.old)
         (named_itself conditions.now from.now (subpath_of asked.now))
-        (responded itself result) (state (F.state folder.new) known.new trail.new) }
+        (responded itself result) (state_of F.state lookup.new) }
+    ensures same { IsSameLookup lookup.old lookup.new }
 {
-    match scope_of(alloc, known, folder, trail, from) {
+    match scope_of(alloc, lookup, from) {
         Err(fault) => Err(behind(fault)),
         Ok(None) => Ok(None),
-        Ok(Some(scope)) => self_at(alloc, known, folder, trail, &scope, asked, conditions),
+        Ok(Some(scope)) => self_at(alloc, lookup, &scope, asked, conditions),
     }
 }
 
 fn self_at<F: Folder>(
     alloc: Global,
-    known: &mut Known,
-    folder: &mut F,
-    trail: &mut Trail,
+    lookup: &mut Lookup<'_, F>,
     scope: &Path,
     asked: &Subpath<'_>,
     conditions: &Conditions,
 ) -> Result<Option<FileUrl>, NodeFault>
-    ensures { Answered (state (F.state folder.old) known.old trail.old)
+    ensures answered { Answered (state_of F.state lookup.old)
         (named_itself_at conditions.now (subpath_of asked.now) (Some scope.now))
-        (responded itself result) (state (F.state folder.new) known.new trail.new) }
+        (responded itself result) (state_of F.state lookup.new) }
+    ensures same { IsSameLookup lookup.old lookup.new }
 {
-    match record_of(alloc, known, folder, trail, scope) {
+    match record_of(alloc, lookup, scope) {
         Err(fault) => Err(behind(fault)),
         Ok(None) => Ok(None),
         Ok(Some(of_scope)) => self_in(alloc, scope, asked, &of_scope, conditions),

@@ -5,7 +5,8 @@ ghost use Rattle.asking_spec.specs.Askings.{answered, and_then};
 ghost use Rattle.node_spec.specs.EsmResolve.{judged};
 ghost use Rattle.node_spec.specs.FileLooks.{is_file, look_at_url};
 ghost use Rattle.node_spec.specs.LegacyMainResolve.{serves};
-ghost use Rattle.package_lookup.specs.Answered.{state, Answered};
+ghost use Rattle.package_lookup.specs.Answered.{Answered};
+ghost use Rattle.package_lookup.specs.Lookups.{state_of, IsSameLookup};
 ghost use Rattle.node_spec.specs.NodeAnswers.{as_node};
 ghost use Rattle.package_lookup.specs.Responses.{given, itself, looked};
 ghost use Rattle.package_lookup.specs.SeenLooks.{entry_of};
@@ -15,7 +16,7 @@ ghost use Rattle.node_resolve.specs.Responses.{responded};
 use crate::NodeFault;
 use crate::fault::behind;
 use node_spec::Cause;
-use package_lookup::{Known, LookupFault, Seen, Trail};
+use package_lookup::{Lookup, LookupFault, Seen};
 use std::alloc::Global;
 use tree_model::{Folder, Path};
 use web_url::{FileUrl, Place, Suffix, place_of};
@@ -23,28 +24,26 @@ use web_url::{FileUrl, Place, Suffix, place_of};
 /// The module at a URL (Node.js, ECMAScript modules: ESM_RESOLVE, "If resolved is a "file:" URL").
 pub fn judged<F: Folder>(
     alloc: Global,
-    known: &mut Known,
-    folder: &mut F,
-    trail: &mut Trail,
+    lookup: &mut Lookup<'_, F>,
     url: &FileUrl,
 ) -> Result<(Path, Suffix), NodeFault>
-    ensures { Answered (state (F.state folder.old) known.old trail.old) (judged url.now)
-        (responded module_at result) (state (F.state folder.new) known.new trail.new) }
+    ensures answered { Answered (state_of F.state lookup.old) (judged url.now)
+        (responded module_at result) (state_of F.state lookup.new) }
+    ensures same { IsSameLookup lookup.old lookup.new }
 {
     let place = place_of(alloc, url)?;
-    judged_at(alloc, known, folder, trail, place)
+    judged_at(alloc, lookup, place)
 }
 
 fn judged_at<F: Folder>(
     alloc: Global,
-    known: &mut Known,
-    folder: &mut F,
-    trail: &mut Trail,
+    lookup: &mut Lookup<'_, F>,
     place: Place,
 ) -> Result<(Path, Suffix), NodeFault>
-    ensures { (url : List ℕ) → IsPlace url place.path place.folder_only place.escaped place.suffix
-        → Answered (state (F.state folder.old) known.old trail.old) (judged url)
-        (responded module_at result) (state (F.state folder.new) known.new trail.new) }
+    ensures answered { (url : List ℕ) → IsPlace url place.path place.folder_only place.escaped place.suffix
+        → Answered (state_of F.state lookup.old) (judged url)
+        (responded module_at result) (state_of F.state lookup.new) }
+    ensures same { IsSameLookup lookup.old lookup.new }
 {
     let Place {
         path,
@@ -57,7 +56,7 @@ fn judged_at<F: Folder>(
     }
     match path {
         None => Err(NodeFault::Refused(Cause::NotFound)),
-        Some(path) => match known.look(alloc, folder, &path, trail) {
+        Some(path) => match lookup.known.look(alloc, lookup.folder, &path, lookup.trail) {
             Err(fault) => Err(behind(fault)),
             Ok(seen) => module_of(path, folder_only, suffix, seen),
         },
@@ -89,30 +88,28 @@ fn module_of(
 /// Whether a file stands at a URL whose path doesn't end in `/`.
 pub fn serves<F: Folder>(
     alloc: Global,
-    known: &mut Known,
-    folder: &mut F,
-    trail: &mut Trail,
+    lookup: &mut Lookup<'_, F>,
     url: &FileUrl,
 ) -> Result<bool, LookupFault>
-    ensures { Answered (state (F.state folder.old) known.old trail.old)
+    ensures answered { Answered (state_of F.state lookup.old)
         (and_then (look_at_url url.now) (λ found. answered (serves url.now found)))
-        (looked itself result) (state (F.state folder.new) known.new trail.new) }
+        (looked itself result) (state_of F.state lookup.new) }
+    ensures same { IsSameLookup lookup.old lookup.new }
 {
     let place = place_of(alloc, url)?;
-    serves_at(alloc, known, folder, trail, place)
+    serves_at(alloc, lookup, place)
 }
 
 fn serves_at<F: Folder>(
     alloc: Global,
-    known: &mut Known,
-    folder: &mut F,
-    trail: &mut Trail,
+    lookup: &mut Lookup<'_, F>,
     place: Place,
 ) -> Result<bool, LookupFault>
-    ensures { (url : List ℕ) → IsPlace url place.path place.folder_only place.escaped place.suffix
-        → Answered (state (F.state folder.old) known.old trail.old)
+    ensures answered { (url : List ℕ) → IsPlace url place.path place.folder_only place.escaped place.suffix
+        → Answered (state_of F.state lookup.old)
         (and_then (look_at_url url) (λ found. answered (serves url found)))
-        (looked itself result) (state (F.state folder.new) known.new trail.new) }
+        (looked itself result) (state_of F.state lookup.new) }
+    ensures same { IsSameLookup lookup.old lookup.new }
 {
     let Place {
         path,
@@ -121,7 +118,7 @@ fn serves_at<F: Folder>(
     } = place;
     match path {
         None => Ok(false),
-        Some(path) => match known.look(alloc, folder, &path, trail) {
+        Some(path) => match lookup.known.look(alloc, lookup.folder, &path, lookup.trail) {
             Err(fault) => Err(fault),
             Ok(seen) => Ok(is_served(&seen, folder_only)),
         },

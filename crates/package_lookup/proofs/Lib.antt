@@ -10,3 +10,4 @@ pub mod Learnings
 pub mod Searches
 pub mod RecordAnswers
 pub mod Laying
+pub mod SameLookups

@@ -10,3 +10,4 @@ pub mod Recorded
 pub mod Formats
 pub mod LaidTrees
 pub mod Laws
+pub mod Lookups

@@ -3,13 +3,13 @@ ghost use Rattle.asking_spec.specs.Askings.{and_then};
 ghost use Rattle.node_spec.specs.EsmFileFormat.{file_format, format_in, format_of_kind, has_ending, HasBadConfig};
 ghost use Rattle.node_spec.specs.LookupPackageScope.{package_scope};
 ghost use Rattle.tree_spec.specs.FoldersAbove.{folder_of};
-ghost use Rattle.tree_spec.specs.LookLimits.{begun};
-ghost use Rattle.package_lookup.specs.Answered.{state, Answered};
+ghost use Rattle.package_lookup.specs.Answered.{Answered};
+ghost use Rattle.package_lookup.specs.Lookups.{begun_of, state_of, IsSameLookup};
 ghost use Rattle.package_lookup.specs.Formats.{by_format, formatted, IsByEnding};
 ghost use Rattle.package_lookup.specs.Responses.{given, by_fault, deep_config};
 
 use crate::packages::{record_of, scope_of};
-use crate::{Known, LookupFault, Trail};
+use crate::{Lookup, LookupFault};
 use node_spec::{PackageKind, Reason};
 use shared_types::Memory;
 use std::alloc::Global;
@@ -30,18 +30,17 @@ pub enum Format {
 /// the caller goes on in that question with a look at the file.
 pub fn format_of<F: Folder>(
     alloc: Global,
-    known: &mut Known,
-    folder: &mut F,
-    trail: &mut Trail,
+    lookup: &mut Lookup<'_, F>,
     path: &Path,
 ) -> Result<Format, LookupFault>
-    ensures { Answered (state (F.state folder.old) known.old (begun trail.old)) (file_format path.now)
-        (formatted result) (state (F.state folder.new) known.new trail.new) }
+    ensures answered { Answered (begun_of F.state lookup.old) (file_format path.now)
+        (formatted result) (state_of F.state lookup.new) }
+    ensures same { IsSameLookup lookup.old lookup.new }
 {
-    trail.begin();
+    lookup.trail.begin();
     match format_by_ending(path) {
         Some(format) => Ok(format),
-        None => format_by_scope(alloc, known, folder, trail, path),
+        None => format_by_scope(alloc, lookup, path),
     }
 }
 
@@ -74,20 +73,19 @@ fn has_ending(path: &Path, ending: &[u8]) -> bool
 // What the package scope of a file says of its format.
 fn format_by_scope<F: Folder>(
     alloc: Global,
-    known: &mut Known,
-    folder: &mut F,
-    trail: &mut Trail,
+    lookup: &mut Lookup<'_, F>,
     path: &Path,
 ) -> Result<Format, LookupFault>
-    ensures { Answered (state (F.state folder.old) known.old trail.old)
+    ensures answered { Answered (state_of F.state lookup.old)
         (and_then (package_scope (folder_of path.now)) format_in)
-        (formatted result) (state (F.state folder.new) known.new trail.new) }
+        (formatted result) (state_of F.state lookup.new) }
+    ensures same { IsSameLookup lookup.old lookup.new }
 {
     let from = folder_of(alloc, path)?;
-    match scope_of(alloc, known, folder, trail, &from) {
+    match scope_of(alloc, lookup, &from) {
         Err(fault) => Err(fault),
         Ok(None) => Ok(Format::Detect),
-        Ok(Some(scope)) => format_in(alloc, known, folder, trail, &scope),
+        Ok(Some(scope)) => format_in(alloc, lookup, &scope),
     }
 }
 
@@ -103,15 +101,14 @@ pub fn folder_of(alloc: Global, path: &Path) -> Result<Path, Memory>
 
 fn format_in<F: Folder>(
     alloc: Global,
-    known: &mut Known,
-    folder: &mut F,
-    trail: &mut Trail,
+    lookup: &mut Lookup<'_, F>,
     scope: &Path,
 ) -> Result<Format, LookupFault>
-    ensures { Answered (state (F.state folder.old) known.old trail.old) (format_in (Some scope.now))
-        (formatted result) (state (F.state folder.new) known.new trail.new) }
+    ensures answered { Answered (state_of F.state lookup.old) (format_in (Some scope.now))
+        (formatted result) (state_of F.state lookup.new) }
+    ensures same { IsSameLookup lookup.old lookup.new }
 {
-    match record_of(alloc, known, folder, trail, scope) {
+    match record_of(alloc, lookup, scope) {
         Ok(None) => Ok(Format::Detect),
         Ok(Some(package)) => Ok(format_of_kind(package.kind)),
         Err(fault) => without_record(fault),

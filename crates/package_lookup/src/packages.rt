@@ -13,10 +13,11 @@ ghost use Rattle.package_lookup.specs.Readings.{outcome_of, AreNamedApart, AreRe
 ghost use Rattle.package_lookup.specs.Recorded.{shown_record, IsRecorded, AllNamedApart};
 ghost use Rattle.package_lookup.specs.Looked.{known_at, IsSameKnown};
 ghost use Rattle.package_lookup.specs.Responses.{given, itself, looked, resolved};
-ghost use Rattle.package_lookup.specs.Answered.{state, Answered};
+ghost use Rattle.package_lookup.specs.Answered.{Answered};
+ghost use Rattle.package_lookup.specs.Lookups.{state_of, IsSameLookup};
 
 use crate::held::Reading;
-use crate::{Known, LookupFault, Seen, Trail};
+use crate::{Known, Lookup, LookupFault, Seen};
 use package_record::{Package, PackageFault, read_package};
 use shared_types::{Bytes, Memory};
 use std::alloc::{AllocError, Global};
@@ -27,20 +28,19 @@ use tree_spec::LimitName;
 /// The package scope of a folder (Node.js, ECMAScript modules: LOOKUP_PACKAGE_SCOPE).
 pub fn scope_of<F: Folder>(
     alloc: Global,
-    known: &mut Known,
-    folder: &mut F,
-    trail: &mut Trail,
+    lookup: &mut Lookup<'_, F>,
     from: &Path,
 ) -> Result<Option<Path>, LookupFault>
-    ensures { Answered (state (F.state folder.old) known.old trail.old) (package_scope from.now)
-        (looked itself result) (state (F.state folder.new) known.new trail.new) }
+    ensures answered { Answered (state_of F.state lookup.old) (package_scope from.now) (looked itself result)
+        (state_of F.state lookup.new) }
+    ensures same { IsSameLookup lookup.old lookup.new }
 {
     let mut at = from.copy(alloc)?;
     'up: loop {
         if is_node_modules(&at) {
             return Ok(None);
         }
-        match holds_record(alloc, known, folder, trail, &at) {
+        match holds_record(alloc, lookup, &at) {
             Err(fault) => return Err(fault),
             Ok(true) => return Ok(Some(at)),
             Ok(false) => {}
@@ -66,17 +66,16 @@ fn is_node_modules(folder: &Path) -> bool
 // Whether a folder holds a file package.json.
 fn holds_record<F: Folder>(
     alloc: Global,
-    known: &mut Known,
-    folder: &mut F,
-    trail: &mut Trail,
+    lookup: &mut Lookup<'_, F>,
     at: &Path,
 ) -> Result<bool, LookupFault>
-    ensures { Answered (state (F.state folder.old) known.old trail.old) (is_accepted scopes at.now)
-        (looked itself result) (state (F.state folder.new) known.new trail.new) }
+    ensures answered { Answered (state_of F.state lookup.old) (is_accepted scopes at.now)
+        (looked itself result) (state_of F.state lookup.new) }
+    ensures same { IsSameLookup lookup.old lookup.new }
 {
     match at.join(alloc, "package.json")? {
         None => Ok(false),
-        Some(path) => match known.look(alloc, folder, &path, trail) {
+        Some(path) => match lookup.known.look(alloc, lookup.folder, &path, lookup.trail) {
             Err(fault) => Err(fault),
             Ok(seen) => Ok(is_file(&seen)),
         },
@@ -96,19 +95,18 @@ fn is_file(seen: &Seen) -> bool
 /// The folder of a package, for a module in a folder (Node.js, ECMAScript modules: PACKAGE_RESOLVE).
 pub fn find_package<F: Folder>(
     alloc: Global,
-    known: &mut Known,
-    folder: &mut F,
-    trail: &mut Trail,
+    lookup: &mut Lookup<'_, F>,
     from: &Path,
     name: &str,
 ) -> Result<Option<Path>, LookupFault>
-    ensures { Answered (state (F.state folder.old) known.old trail.old) (package_folder from.now name.now)
-        (looked itself result) (state (F.state folder.new) known.new trail.new) }
+    ensures answered { Answered (state_of F.state lookup.old) (package_folder from.now name.now)
+        (looked itself result) (state_of F.state lookup.new) }
+    ensures same { IsSameLookup lookup.old lookup.new }
 {
     let place = place_of(alloc, name)?;
     let mut at = from.copy(alloc)?;
     'up: loop {
-        match package_in(alloc, known, folder, trail, &at, place.as_str()) {
+        match package_in(alloc, lookup, &at, place.as_str()) {
             Err(fault) => return Err(fault),
             Ok(Some(package)) => return Ok(Some(package)),
             Ok(None) => {}
@@ -123,20 +121,22 @@ pub fn find_package<F: Folder>(
 /// The record of a folder (Node.js, ECMAScript modules: READ_PACKAGE_JSON); none where it has no file package.json.
 pub fn record_of<F: Folder>(
     alloc: Global,
-    known: &mut Known,
-    folder: &mut F,
-    trail: &mut Trail,
+    lookup: &mut Lookup<'_, F>,
     at: &Path,
 ) -> Result<Option<Rc<Package>>, LookupFault>
-    ensures record { Answered (state (F.state folder.old) known.old trail.old) (record_at at.now)
-        (resolved shown_record result) (state (F.state folder.new) known.new trail.new) }
+    ensures record { Answered (state_of F.state lookup.old) (record_at at.now)
+        (resolved shown_record result) (state_of F.state lookup.new) }
     ensures named { AllNamedApart result }
+    ensures same { IsSameLookup lookup.old lookup.new }
 {
     match at.join(alloc, "package.json")? {
         None => Ok(None),
-        Some(path) => match known.sight(alloc, folder, &path, trail) {
+        Some(path) => match lookup
+            .known
+            .sight(alloc, lookup.folder, &path, lookup.trail)
+        {
             Err(fault) => Err(fault),
-            Ok((seen, reading)) => recorded(alloc, known, path, seen, reading),
+            Ok((seen, reading)) => recorded(alloc, lookup.known, path, seen, reading),
         },
     }
 }
@@ -220,20 +220,19 @@ fn place_of(alloc: Global, name: &str) -> Result<String, Memory>
 // The package that stands at a place in a folder.
 fn package_in<F: Folder>(
     alloc: Global,
-    known: &mut Known,
-    folder: &mut F,
-    trail: &mut Trail,
+    lookup: &mut Lookup<'_, F>,
     at: &Path,
     place: &str,
 ) -> Result<Option<Path>, LookupFault>
     ensures answered { (name : List ℕ) → place.now ≡ codes "node_modules/" ++ name
-        → Answered (state (F.state folder.old) known.old trail.old) (is_accepted (packages name) at.now)
-        (looked is_some result) (state (F.state folder.new) known.new trail.new) }
+        → Answered (state_of F.state lookup.old) (is_accepted (packages name) at.now)
+        (looked is_some result) (state_of F.state lookup.new) }
     ensures place { IfOk result (λ found. IfSome found (λ path. path ≡ joined at.now place.now)) }
+    ensures same { IsSameLookup lookup.old lookup.new }
 {
     match at.join(alloc, place)? {
         None => Ok(None),
-        Some(path) => match known.look(alloc, folder, &path, trail) {
+        Some(path) => match lookup.known.look(alloc, lookup.folder, &path, lookup.trail) {
             Err(fault) => Err(fault),
             Ok(Seen::Folder) => Ok(Some(path)),
             Ok(Seen::Absent) => Ok(None),

@@ -74,17 +74,8 @@ impl<L: Ledger> Packages<L> {
         let Ok(path) = Path::parse(alloc, path) else {
             return said.push("no path");
         };
-        let site = &mut self.site;
-        push_format(
-            &format_of(
-                alloc,
-                &mut site.known,
-                &mut site.folder,
-                &mut site.trail,
-                &path,
-            ),
-            said,
-        );
+        let mut lookup = self.site.lookup();
+        push_format(&format_of(alloc, &mut lookup, &path), said);
     }
 
     // The package scope of the folder at a path.
@@ -92,17 +83,8 @@ impl<L: Ledger> Packages<L> {
         let Ok(path) = Path::parse(alloc, path) else {
             return said.push("no path");
         };
-        let site = &mut self.site;
-        push_scope(
-            &scope_of(
-                alloc,
-                &mut site.known,
-                &mut site.folder,
-                &mut site.trail,
-                &path,
-            ),
-            said,
-        );
+        let mut lookup = self.site.lookup();
+        push_scope(&scope_of(alloc, &mut lookup, &path), said);
     }
 
     // What the file that asks gets for a specifier, or the paths that are looked at for it.
@@ -114,12 +96,10 @@ impl<L: Ledger> Packages<L> {
         specifier: &str,
         said: &mut Said,
     ) {
-        let site = &mut self.site;
+        let mut lookup = self.site.lookup();
         let answer = resolve(
             alloc,
-            &mut site.known,
-            &mut site.folder,
-            &mut site.trail,
+            &mut lookup,
             &asker.from,
             specifier,
             &asker.conditions,

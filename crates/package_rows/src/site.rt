@@ -1,6 +1,6 @@
 //! A small tree, and what is known of it.
 
-use package_lookup::{Known, LookupFault, Seen, Trail};
+use package_lookup::{Known, Lookup, LookupFault, Seen, Trail};
 use std::alloc::Global;
 use tree_model::{MemFolder, Memory, Path};
 
@@ -20,6 +20,15 @@ impl Site {
             known: Known::new(alloc),
             trail: Trail::new(alloc),
         })
+    }
+
+    /// The tree, what is known of it and the trail, to be asked by.
+    pub fn lookup(&mut self) -> Lookup<'_, MemFolder> {
+        Lookup {
+            known: &mut self.known,
+            folder: &mut self.folder,
+            trail: &mut self.trail,
+        }
     }
 
     /// What stands at a path.

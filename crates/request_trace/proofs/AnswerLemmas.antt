@@ -3,6 +3,7 @@
 --     always_ready         an answerer that needs nothing to be ready
 --     kind_of, found_of    why a module has no source, and that one that it has is right
 --     met_by               a question
+--     referring            the references of a look-up that refers to what it referred to
 --     traces_by            the walk
 --     traces_moved         the same beside another name for the state
 --     traces_nothing       there is no memory for a walk
@@ -46,7 +47,9 @@ use Rattle.module_sources.specs.Shown.{FindsSource, IsSource}
 use Rattle.trace_walk.specs.Kinds.{IsOfAnswers, IsOfWalk}
 use Rattle.trace_walk.specs.Shown.{traced_of}
 use Rattle.trace_walk.specs.declared.tables.Tables.{Tables}
-use Rattle.request_trace.specs.Answering.{result_by, told_by, ToldBy, answers_of}
+use Rattle.package_lookup.specs.Lookups.{IsSameLookup}
+use Rattle.package_lookup.specs.declared.lookup.Lookup.{Lookup}
+use Rattle.request_trace.specs.Answering.{result_by, told_by, ToldBy, answers_of, references_of}
 use Rattle.request_trace.specs.Tracing.{known_of, IsOfFootprint, TakesSteps, Traces}
 use Rattle.request_trace.proofs.FootprintPaths.{footprint_contains}
 
@@ -61,6 +64,10 @@ kind_of (Err fault) P is = is
 pub found_of : (result : Result (Result Source NoSource) TraceFault) (P : Type 0) → MatchResult result (λ source. P → IsSource source) IsOfAnswers → P → FindsSource result
 found_of (Ok source) P is holds = is holds
 found_of (Err fault) P is holds = tt
+
+pub referring : {F : Type 0} (old new : Lookup F) (steps : ℕ) → IsSameLookup old new
+    → references_of new steps ≡ references_of old steps
+referring old new steps same = (λ i. same.folder i ∷ same.known i ∷ steps ∷ same.trail i ∷ [])
 
 abbrev Answering : Type 0
 Answering = Told Trail Question Answer
@@ -144,12 +151,13 @@ module _ (references : List ℕ) (taken spent : ℕ) (before after : State) (que
       subst (λ (t : Answering). spent ≤ taken + length (fresh_to_end t before.trail (fine (ask question answered))))
       (sym by.are) (omega (arith, few))
 
-  pub met_by : spent ≤ taken + 1 → result ≡ result_by response → Answered (afresh before) (put question) response after
-      → Met (answers_of references taken before) (fine (ask question answered)) result (answers_of references spent after)
-  met_by few is a = record {
+  pub met_by : (others : List ℕ) → others ≡ references → spent ≤ taken + 1 → result ≡ result_by response
+      → Answered (afresh before) (put question) response after
+      → Met (answers_of references taken before) (fine (ask question answered)) result (answers_of others spent after)
+  met_by others names few is a = record {
     comes = comes_told is a;
     told = told_still a;
-    keeps = (λ i. record { references = references; holds = a.folder.tree i; writes = a.folder.writes i });
+    keeps = (λ i. record { references = names i; holds = a.folder.tree i; writes = a.folder.writes i });
     later = a.folder.later;
     cause = λ e. a.folder.cause (read_by response result is e);
     quiet = λ ne. a.folder.quiet (λ e. ne (is ∙ ap result_by e));

@@ -3,8 +3,9 @@
 --     told_by sights                the answers by what stands at each path, and the looks of each question; each is
 --                                   fresh
 --     ToldBy folder known told      these are the answers so, as far as looks tell
+--     references_of lookup steps    where the answers write
 --     answers_of references steps looks      what answers, in this state, behind so many steps
-use Rattle.std.specs.Prelude.{◌≡◌, ℕ, true, List, Some, Result, Ok, Err}
+use Rattle.std.specs.Prelude.{◌≡◌, ℕ, true, List, [], ◌∷◌, Some, Result, Ok, Err}
 use Rattle.tree_spec.specs.LookAskings.{Sights, looks}
 use Rattle.tree_spec.specs.LookLimits.{Trail}
 use Rattle.tree_spec.specs.States.{FolderState}
@@ -14,6 +15,7 @@ use Rattle.trace_spec.specs.declared.TraceFault.TheVariants.{Limit, ReadFault, M
 use Rattle.trace_spec.specs.Questions.{Question, Answer, put, answers, always}
 use Rattle.package_lookup.specs.declared.known.Known.{Known}
 use Rattle.package_lookup.specs.Looked.{Sees}
+use Rattle.package_lookup.specs.declared.lookup.Lookup.{Lookup}
 use Rattle.package_lookup.specs.Answered.{State}
 use Rattle.package_lookup.specs.Responses.{Response, given, fails, passes, not_read, no_memory, never}
 use Rattle.trace_walk.specs.Meeting.{Told, AnswererState}
@@ -41,6 +43,10 @@ pub record ToldBy (folder : FolderState) (known : Known) (told : Told Trail Ques
   pub holds : folder.holds ≡ Some tree
   pub sees : Sees tree known sights
   pub are : told ≡ told_by sights
+
+abbrev pub references_of : {F : Type 0} → Lookup F → ℕ → List ℕ
+references_of lookup steps =
+    lookup.folder.ghost_name ∷ lookup.known.ghost_name ∷ steps ∷ lookup.trail.ghost_name ∷ []
 
 abbrev pub answers_of : List ℕ → ℕ → State → AnswererState
 answers_of references steps looks =

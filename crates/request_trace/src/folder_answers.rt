@@ -11,7 +11,7 @@ ghost use Rattle.request_trace.specs.Answering.{result_by};
 use condition_match::Conditions;
 use module_sources::{NoSource, Source, module_source};
 use node_resolve::{Found, NodeFault, resolve};
-use package_lookup::{Known, LookupFault, Trail};
+use package_lookup::{Lookup, LookupFault};
 use shared_types::Steps;
 use std::alloc::Global;
 use std::sync::ledger::Ledger;
@@ -23,21 +23,18 @@ use tree_spec::LimitName;
 /// Answers a walk's questions by looks at a folder. What is known of the folder isn't looked at again; each question is
 /// a new one on the trail.
 #[derive(Drop)]
-pub struct FolderAnswers<'a, 'b, 'c, 'd, F: Folder, L: Ledger> {
-    pub(crate) folder: &'a mut F,
-    pub(crate) known: &'b mut Known,
-    pub(crate) steps: &'c mut Steps<L>,
-    pub(crate) trail: &'d mut Trail,
+pub struct FolderAnswers<'a, 'b, F: Folder, L: Ledger> {
+    pub(crate) lookup: Lookup<'a, F>,
+    pub(crate) steps: &'b mut Steps<L>,
 }
 
-impl<'a, 'b, 'c, 'd, F: Folder, L: Ledger> Answerer for FolderAnswers<'a, 'b, 'c, 'd, F, L> {
-    ghost use Rattle.std.specs.Prelude.{⊤, [], ◌∷◌};
-    ghost use Rattle.package_lookup.specs.Answered.{state};
-    ghost use Rattle.request_trace.specs.Answering.{answers_of};
+impl<'a, 'b, F: Folder, L: Ledger> Answerer for FolderAnswers<'a, 'b, F, L> {
+    ghost use Rattle.std.specs.Prelude.{⊤};
+    ghost use Rattle.package_lookup.specs.Lookups.{state_of};
+    ghost use Rattle.request_trace.specs.Answering.{answers_of, references_of};
 
-    ghost state = { λ answers. answers_of (answers.folder.ghost_name ∷ answers.known.ghost_name
-        ∷ answers.steps.ghost_name ∷ answers.trail.ghost_name ∷ []) answers.steps.now
-        (state (F.state answers.folder.now) answers.known.now answers.trail.now) };
+    ghost state = { λ answers. answers_of (references_of answers.lookup answers.steps.ghost_name) answers.steps.now
+        (state_of F.state answers.lookup) };
 
     ghost ready = { λ answers. ⊤ };
 
@@ -46,7 +43,7 @@ impl<'a, 'b, 'c, 'd, F: Folder, L: Ledger> Answerer for FolderAnswers<'a, 'b, 'c
         alloc: Global,
         path: &Path,
     ) -> Result<Result<Source, NoSource>, TraceFault> {
-        let found = module_source(alloc, self.known, self.folder, self.trail, path, self.steps);
+        let found = module_source(alloc, &mut self.lookup, path, self.steps);
         source_answer(found)
     }
 
@@ -59,9 +56,7 @@ impl<'a, 'b, 'c, 'd, F: Folder, L: Ledger> Answerer for FolderAnswers<'a, 'b, 'c
     ) -> Result<NodeAnswer, TraceFault> {
         let found = resolve(
             alloc,
-            self.known,
-            self.folder,
-            self.trail,
+            &mut self.lookup,
             parent,
             specifier,
             conditions,

@@ -6,7 +6,7 @@ ghost use Rattle.tree_spec.specs.LookLimits.{no_trail};
 
 use crate::folder_answers::FolderAnswers;
 use crate::traces::Trace;
-use package_lookup::{Known, Trail};
+use package_lookup::{Known, Lookup, Trail};
 use shared_types::Steps;
 use std::alloc::Global;
 use std::sync::ledger::Ledger;
@@ -57,9 +57,11 @@ fn tables_of<F: Folder, L: Ledger>(
         steps.old steps.new }
 {
     let mut answers = FolderAnswers {
-        folder,
-        known,
-        trail,
+        lookup: Lookup {
+            known,
+            folder,
+            trail,
+        },
         steps,
     };
     walk(alloc, &mut answers, config)

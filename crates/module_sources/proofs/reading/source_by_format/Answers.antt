@@ -1,6 +1,6 @@
 use Rattle.std.specs.Prelude.{Ok}
 use Rattle.node_spec.specs.EsmFileFormat.{IsModule, IsDetected}
-use Rattle.package_lookup.specs.Answered.{state}
+use Rattle.package_lookup.specs.Lookups.{state_of}
 use Rattle.package_lookup.specs.Responses.{looked}
 use Rattle.module_sources.specs.Shown.{source_in}
 use Rattle.module_sources.proofs.SourceAnswers.{at_format, no_module_now}
@@ -18,5 +18,5 @@ returns-in-Detect-clause-answered g c = λ found is.
 
 pub returns-in-Not-clause-answered : goal.returns-in-Not-clause-answered
 returns-in-Not-clause-answered g c = λ found is.
-    no_module_now (state (g.F.Folder.state c.args.folder.now) c.args.known.now c.args.trail.now) c.args.path.now found
+    no_module_now (state_of g.F.Folder.state c.args.lookup.now) c.args.path.now found
     c.in-Not.reason (rw c.in-Not.is at is)

@@ -4,7 +4,7 @@ use Rattle.node_spec.specs.PackageTargets.{Call}
 use Rattle.condition_match.specs.Choosing.{IsLeft}
 use Rattle.node_spec.specs.NodeAnswers.{Url, Resolving}
 use Rattle.node_spec.specs.PackageResolve.{package_resolve}
-use Rattle.package_lookup.specs.Answered.{state}
+use Rattle.package_lookup.specs.Lookups.{state_of}
 use Rattle.node_resolve.specs.BareTexts.{Kept, kept, failing_of, last_shown, lost_by}
 use Rattle.node_resolve.specs.declared.bare_texts.BareTexts.{BareTexts}
 use Rattle.std.specs.Prelude.{option_map}
@@ -14,7 +14,7 @@ use Rattle.node_resolve.proofs.bare_texts.chosen_by.Goals as goal
 pub returns-in-None-clause-answered : goal.returns-in-None-clause-answered
 returns-in-None-clause-answered g c =
     let chosen = rw c.in-Ok.is at c.choose.ensures.chosen in
-    let see : BareTexts g.row.F.Denot → Kept = λ b. kept (state (g.F.Folder.state b.folder.now) b.known.now b.trail.now) b.last.now b.fault in
+    let see : BareTexts g.row.F.Denot → Kept = λ b. kept (state_of g.F.Folder.state b.lookup.now) b.last.now b.fault in
     let ask_of : BareTexts g.row.F.Denot → List ℕ → Resolving Url = λ b. package_resolve b.conditions.now b.package_folder.now in
     let calls = calls_seen _ see ask_of (λ old new text answer gave. ((λ i. package_resolve ((gave.2 i).now) ((gave.1 i).now)), gave.3)) _ c.choose.new.bare chosen.asked chosen.calls in
     let answered = choice_answered _ _ _ chosen.asked c.in-Ok.outcome chosen.resolves _ (see c.choose.new.bare) (ap (option_map failing_of) c.requires.fault) (ap last_shown c.requires.last) calls in
@@ -23,7 +23,7 @@ returns-in-None-clause-answered g c =
 pub returns-in-Some-clause-answered : goal.returns-in-Some-clause-answered
 returns-in-Some-clause-answered g c =
     let chosen = rw c.in-Ok.is at c.choose.ensures.chosen in
-    let see : BareTexts g.row.F.Denot → Kept = λ b. kept (state (g.F.Folder.state b.folder.now) b.known.now b.trail.now) b.last.now b.fault in
+    let see : BareTexts g.row.F.Denot → Kept = λ b. kept (state_of g.F.Folder.state b.lookup.now) b.last.now b.fault in
     let ask_of : BareTexts g.row.F.Denot → List ℕ → Resolving Url = λ b. package_resolve b.conditions.now b.package_folder.now in
     let calls = calls_seen _ see ask_of (λ old new text answer gave. ((λ i. package_resolve ((gave.2 i).now) ((gave.1 i).now)), gave.3)) _ c.choose.new.bare chosen.asked chosen.calls in
     let answered = choice_answered _ _ _ chosen.asked c.in-Ok.outcome chosen.resolves _ (see c.choose.new.bare) (ap (option_map failing_of) c.requires.fault) (ap last_shown c.requires.last) calls in
@@ -37,7 +37,7 @@ left_is middle new (call ∷ more) (inr never) = absurd never
 pub returns-in-Err-clause-answered : goal.returns-in-Err-clause-answered
 returns-in-Err-clause-answered g c =
     let begins = rw c.in-Err.is at c.choose.ensures.memory in
-    let see : BareTexts g.row.F.Denot → Kept = λ b. kept (state (g.F.Folder.state b.folder.now) b.known.now b.trail.now) b.last.now b.fault in
+    let see : BareTexts g.row.F.Denot → Kept = λ b. kept (state_of g.F.Folder.state b.lookup.now) b.last.now b.fault in
     let ask_of : BareTexts g.row.F.Denot → List ℕ → Resolving Url = λ b. package_resolve b.conditions.now b.package_folder.now in
     let same : c.choose.new.bare ≡ begins.middle = left_is begins.middle c.choose.new.bare begins.more begins.left in
     let calls = calls_seen _ see ask_of (λ old new text answer gave. ((λ i. package_resolve ((gave.2 i).now) ((gave.1 i).now)), gave.3)) _ c.choose.new.bare begins.asked (calls_end _ _ begins.middle c.choose.new.bare begins.asked same begins.calls) in

@@ -7,20 +7,20 @@ use Rattle.node_resolve.proofs.Answering.{memory_err, refused_now}
 use Rattle.node_resolve.proofs.RuleLemmas.{node_scheme, other_scheme, no_scheme}
 use Rattle.node_resolve.proofs.esm_resolve.specifier_url.Goals as goal
 
-pub returns-in_err-scheme_of : goal.returns-in_err-scheme_of
-returns-in_err-scheme_of g c = memory_err itself _ _ c.from_residual.result c.from_residual.ensures.1
+pub returns-in_err-scheme_of-clause-answered : goal.returns-in_err-scheme_of-clause-answered
+returns-in_err-scheme_of-clause-answered g c = memory_err itself _ _ c.from_residual.result c.from_residual.ensures.1
 
-pub returns-in-Node : goal.returns-in-Node
-returns-in-Node g c =
+pub returns-in-Node-clause-answered : goal.returns-in-Node-clause-answered
+returns-in-Node-clause-answered g c =
     asking_as _ _ _ _ _ (sym (node_scheme c.args.conditions.now c.args.parent.now c.args.specifier.now (scheme_of c.args.specifier.now)
     (rw c.in-Node.is at c.in_ok-scheme_of.ensures))) (refused_now _ Builtin)
 
-pub returns-in-Other : goal.returns-in-Other
-returns-in-Other g c =
+pub returns-in-Other-clause-answered : goal.returns-in-Other-clause-answered
+returns-in-Other-clause-answered g c =
     asking_as _ _ _ _ _ (sym (other_scheme c.args.conditions.now c.args.parent.now c.args.specifier.now (scheme_of c.args.specifier.now)
     (rw c.in-Other.is at c.in_ok-scheme_of.ensures))) (refused_now _ ExternalUrl)
 
-pub returns-in-NotUrl : goal.returns-in-NotUrl
-returns-in-NotUrl g c =
+pub returns-in-NotUrl-clause-answered : goal.returns-in-NotUrl-clause-answered
+returns-in-NotUrl-clause-answered g c =
     asking_as _ _ _ _ _ (sym (no_scheme c.args.conditions.now c.args.parent.now c.args.specifier.now (scheme_of c.args.specifier.now)
-    (rw c.in-NotUrl.is at c.in_ok-scheme_of.ensures))) c.no_url.ensures
+    (rw c.in-NotUrl.is at c.in_ok-scheme_of.ensures))) c.no_url.ensures.answered

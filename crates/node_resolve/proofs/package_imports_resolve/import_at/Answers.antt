@@ -8,14 +8,14 @@ use Rattle.node_resolve.proofs.Answering.{refused_now}
 use Rattle.node_resolve.proofs.KeyLemmas.{key_none, key_some}
 use Rattle.node_resolve.proofs.package_imports_resolve.import_at.Goals as goal
 
-pub returns-in-None : goal.returns-in-None
-returns-in-None g c =
+pub returns-in-None-clause-answered : goal.returns-in-None-clause-answered
+returns-in-None-clause-answered g c =
     asking_as _ _ _ _ _
     (sym (key_none (import_paths c.args.conditions.now c.args.scope.now (members_of (pairs_of c.args.members.now))) c.args.text.now
     (rw c.in-None.is at c.target_of.ensures))) (refused_now _ ImportNotDefined)
 
-pub returns-in-Some : goal.returns-in-Some
-returns-in-Some g c =
+pub returns-in-Some-clause-answered : goal.returns-in-Some-clause-answered
+returns-in-Some-clause-answered g c =
     asking_as _ _ _ _ _
     (sym (key_some (import_paths c.args.conditions.now c.args.scope.now (members_of (pairs_of c.args.members.now))) c.args.text.now _ _
-    (rw c.in-Some.is at c.target_of.ensures))) c.import_target.ensures
+    (rw c.in-Some.is at c.target_of.ensures))) c.import_target.ensures.answered

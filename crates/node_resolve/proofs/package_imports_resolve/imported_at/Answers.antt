@@ -6,21 +6,21 @@ use Rattle.package_record.specs.Shown.{record_shown}
 use Rattle.node_resolve.proofs.Answering.{record_fails, then_ok, refused_now}
 use Rattle.node_resolve.proofs.package_imports_resolve.imported_at.Goals as goal
 
-pub returns-in-Err : goal.returns-in-Err
-returns-in-Err g c =
+pub returns-in-Err-clause-answered : goal.returns-in-Err-clause-answered
+returns-in-Err-clause-answered g c =
     record_fails _ _ (record_at c.args.scope.now)
     (imported_in c.args.conditions.now c.args.scope.now c.args.text.now) c.in-Err.fault c.behind.result
     c.behind.ensures (rw c.in-Err.is at c.record_of.ensures.record)
 
-pub returns-in-Ok-None : goal.returns-in-Ok-None
-returns-in-Ok-None g c =
+pub returns-in-Ok-None-clause-answered : goal.returns-in-Ok-None-clause-answered
+returns-in-Ok-None-clause-answered g c =
     then_ok _ _ _ (record_at c.args.scope.now)
     (imported_in c.args.conditions.now c.args.scope.now c.args.text.now) None _
     (rw (c.in-Ok-None.is, c.in-Ok-None.field-0-is) at c.record_of.ensures.record) (refused_now _ ImportNotDefined)
 
-pub returns-in-Ok-Some : goal.returns-in-Ok-Some
-returns-in-Ok-Some g c =
+pub returns-in-Ok-Some-clause-answered : goal.returns-in-Ok-Some-clause-answered
+returns-in-Ok-Some-clause-answered g c =
     then_ok _ _ _ (record_at c.args.scope.now)
     (imported_in c.args.conditions.now c.args.scope.now c.args.text.now)
     (Some (record_shown c.in-Ok-Some.of_scope.value)) _
-    (rw (c.in-Ok-Some.is, c.in-Ok-Some.field-0-is) at c.record_of.ensures.record) (rw c.deref.ensures at c.imported.ensures)
+    (rw (c.in-Ok-Some.is, c.in-Ok-Some.field-0-is) at c.record_of.ensures.record) (rw c.deref.ensures at c.imported.ensures.answered)

@@ -4,10 +4,10 @@ use Rattle.package_lookup.proofs.Questions.{looked_err, no_memory_now}
 use Rattle.node_resolve.proofs.PlaceLemmas.{serving}
 use Rattle.node_resolve.proofs.places.serves.Goals as goal
 
-pub returns-in_err-place : goal.returns-in_err-place
-returns-in_err-place g c =
+pub returns-in_err-place-clause-answered : goal.returns-in_err-place-clause-answered
+returns-in_err-place-clause-answered g c =
     looked_err itself _ _ (serving c.args.url.now) c.from_residual.result Memory c.from_residual.ensures.1
     (no_memory_now _ (serving c.args.url.now))
 
-pub returns : goal.returns
-returns g c = c.serves_at.ensures c.args.url.now c.in_ok-place.ensures
+pub returns-clause-answered : goal.returns-clause-answered
+returns-clause-answered g c = c.serves_at.ensures.answered c.args.url.now c.in_ok-place.ensures

@@ -1,7 +1,7 @@
 use Rattle.std.specs.Prelude.{is_some}
 use Rattle.node_spec.specs.Nearest.{is_accepted}
 use Rattle.node_spec.specs.PackageResolve.{packages}
-use Rattle.package_lookup.specs.Answered.{state}
+use Rattle.package_lookup.specs.Lookups.{state_of}
 use Rattle.package_lookup.specs.declared.fault.LookupFault.TheVariants.{Memory}
 use Rattle.package_lookup.proofs.Questions.{looked_err, no_memory_now}
 use Rattle.package_lookup.proofs.Searches.{nothing_there, fault_there, seen_there}
@@ -11,12 +11,12 @@ pub returns-in_err-join-clause-answered : goal.returns-in_err-join-clause-answer
 returns-in_err-join-clause-answered g c = λ name is.
     looked_err is_some _ _ (is_accepted (packages name) c.args.at.now) c.from_residual.result Memory
     c.from_residual.ensures.1
-    (no_memory_now (state (g.F.Folder.state c.args.folder.now) c.args.known.now c.args.trail.now)
+    (no_memory_now (state_of g.F.Folder.state c.args.lookup.now)
     (is_accepted (packages name) c.args.at.now))
 
 pub returns-in-None-clause-answered : goal.returns-in-None-clause-answered
 returns-in-None-clause-answered g c = λ name is.
-    nothing_there (packages name) (state (g.F.Folder.state c.args.folder.now) c.args.known.now c.args.trail.now)
+    nothing_there (packages name) (state_of g.F.Folder.state c.args.lookup.now)
     c.args.at.now (rw (c.in-None.is, is) at c.in_ok-join.ensures)
 
 pub returns-in-Err-clause-answered : goal.returns-in-Err-clause-answered

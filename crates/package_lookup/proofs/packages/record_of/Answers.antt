@@ -1,5 +1,6 @@
 use Rattle.node_spec.specs.ReadPackageJson.{record_at}
 use Rattle.package_lookup.specs.Answered.{state}
+use Rattle.package_lookup.specs.Lookups.{state_of}
 use Rattle.package_lookup.specs.Recorded.{shown_record}
 use Rattle.package_lookup.specs.SeenLooks.{entry_of}
 use Rattle.package_lookup.specs.declared.fault.LookupFault.TheVariants.{Memory}
@@ -10,12 +11,12 @@ use Rattle.package_lookup.proofs.packages.record_of.Goals as goal
 pub returns-in_err-join-clause-record : goal.returns-in_err-join-clause-record
 returns-in_err-join-clause-record g c =
     resolved_err shown_record _ _ (record_at c.args.at.now) c.from_residual.result Memory c.from_residual.ensures.1
-    (no_memory_now (state (g.F.Folder.state c.args.folder.now) c.args.known.now c.args.trail.now)
+    (no_memory_now (state_of g.F.Folder.state c.args.lookup.now)
     (record_at c.args.at.now))
 
 pub returns-in-None-clause-record : goal.returns-in-None-clause-record
 returns-in-None-clause-record g c =
-    no_record (state (g.F.Folder.state c.args.folder.now) c.args.known.now c.args.trail.now) c.args.at.now
+    no_record (state_of g.F.Folder.state c.args.lookup.now) c.args.at.now
     (rw c.in-None.is at c.in_ok-join.ensures)
 
 pub returns-in-Err-clause-record : goal.returns-in-Err-clause-record

@@ -1,21 +1,21 @@
 use Rattle.std.proofs.Common.{rules}
-use Rattle.std.specs.Prelude.{[], ◌∷◌}
 use Rattle.module_sources.specs.Shown.{source_in}
 use Rattle.package_lookup.specs.Responses.{looked}
-use Rattle.package_lookup.specs.Answered.{state}
+use Rattle.package_lookup.specs.Lookups.{state_of}
+use Rattle.request_trace.specs.Answering.{references_of}
 use Rattle.trace_spec.specs.Questions.{of_module}
 use Rattle.trace_walk.specs.Shown.{sources}
-use Rattle.request_trace.proofs.AnswerLemmas.{always_ready, met_by, kind_of, found_of}
+use Rattle.request_trace.proofs.AnswerLemmas.{always_ready, met_by, referring, kind_of, found_of}
 use Rattle.request_trace.proofs.folder_answers.FolderAnswersAnswerer.module.Goals as goal
 
 pub returns-clause-met : goal.returns-clause-met
 returns-clause-met g c =
-    met_by
-    (c.args.self.now.folder.ghost_name ∷ c.args.self.now.known.ghost_name ∷ c.args.self.now.steps.ghost_name
-    ∷ c.args.self.now.trail.ghost_name ∷ []) c.args.self.now.steps.now c.module_source-found.new.steps
-    (state (g.F.Folder.state c.args.self.now.folder.now) c.args.self.now.known.now c.args.self.now.trail.now)
-    (state (g.F.Folder.state c.module_source-found.new.folder) c.module_source-found.new.known c.module_source-found.new.trail)
-    (of_module c.args.path.now) (looked source_in c.module_source-found.result) (sources c.source_answer.result) (search rules) c.source_answer.ensures.is c.module_source-found.ensures.answered
+    met_by (references_of c.args.self.now.lookup c.args.self.now.steps.ghost_name) c.args.self.now.steps.now c.module_source-found.new.steps
+    (state_of g.F.Folder.state c.args.self.now.lookup) (state_of g.F.Folder.state c.module_source-found.new.lookup)
+    (of_module c.args.path.now) (looked source_in c.module_source-found.result) (sources c.source_answer.result)
+    (references_of c.module_source-found.new.lookup c.args.self.now.steps.ghost_name)
+    (referring c.args.self.now.lookup c.module_source-found.new.lookup c.args.self.now.steps.ghost_name c.module_source-found.ensures.same) (search rules)
+    c.source_answer.ensures.is c.module_source-found.ensures.answered
 
 pub returns-clause-answered : goal.returns-clause-answered
 returns-clause-answered g c = record {
