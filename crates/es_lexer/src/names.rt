@@ -4,6 +4,7 @@ ghost use Rattle.std.specs.Char.{is_ascii_digit};
 ghost use Rattle.module_spec.specs.Characters.{is_hex_digit, hex_digits, braced_size};
 ghost use Rattle.module_spec.specs.Characters.{unicode_size, escape_size, is_name_byte};
 ghost use Rattle.module_spec.specs.Characters.{name_size, begins_digit, begins_name, name_rest};
+ghost use Rattle.es_lexer.specs.Steps.{NameGoesOn};
 
 use crate::characters::{begins_wide_space, behind, character_size};
 
@@ -182,7 +183,7 @@ pub fn begins_name(bytes: &[u8]) -> bool
 // The bytes behind one character of names.
 fn name_more(bytes: &[u8]) -> Option<&[u8]>
     ensures { MatchOption result (name_rest bytes.now ≡ bytes.now)
-        (λ more. (name_rest bytes.now ≡ name_rest more.now) × (length more.now < length bytes.now)) }
+        (λ more. NameGoesOn bytes.now more.now) }
 {
     let size = name_size(bytes);
     if size == 0 {
@@ -207,7 +208,7 @@ fn any_name_rest(bytes: &[u8]) -> &[u8]
 // The bytes behind one letter, digit, `_` or `$`.
 #[inline]
 fn plain_more(bytes: &[u8]) -> Option<&[u8]>
-    ensures { IfSome result (λ more. (name_rest bytes.now ≡ name_rest more.now) × (length more.now < length bytes.now)) }
+    ensures { IfSome result (λ more. NameGoesOn bytes.now more.now) }
 {
     match bytes.split_first() {
         None => None,

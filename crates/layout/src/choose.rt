@@ -24,7 +24,8 @@ pub(crate) fn choose(
 ) -> Result<(), Memory>
     ensures { OnOk result ((wish : Wish) → IsAskedFor wish asked.now targets.now own → AreNodes wish nodes.now
         → rows.items ≡ reverse (settled_rows wish (places_of nodes.now))
-        → IsLaid (laid_map laid.old) asked.now (chosen wish (reverse (places_of nodes.now)) no_weight) (laid_map laid.new)) }
+        → IsLaid (laid_map laid.old) asked.now (chosen wish (reverse (places_of nodes.now)) no_weight)
+        (laid_map laid.new)) }
 {
     let mut values = Vec::new(alloc);
     let mut left = rows;

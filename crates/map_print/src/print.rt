@@ -143,7 +143,8 @@ fn push_integrity_member(
     folder: &MapFolder,
 ) -> Result<(), Memory>
     ensures { OnOk result (Appends out.old.items out.new.items
-        (printed_members 1 (with_part (codes "integrity") (pairs_members Values.Digests folder.now pairs.now) no_members))) }
+        (printed_members 1
+        (with_part (codes "integrity") (pairs_members Values.Digests folder.now pairs.now) no_members))) }
 {
     if pairs.is_empty() {
         return Ok(());

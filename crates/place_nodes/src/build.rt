@@ -1,6 +1,7 @@
 ghost use Rattle.std.specs.Prelude.{◌≡◌, ◌≤◌, ◌↔◌, IsTrue, [], Some, OnOk, IfOk, MatchOption, Contains, slice_get, option_copied, length};
 ghost use Rattle.layout_spec.specs.declared.Need.{Need};
 ghost use Rattle.place_nodes.specs.Building as definition;
+ghost use Rattle.place_nodes.specs.Rows.{IsNumberOf};
 ghost use Rattle.place_nodes.specs.Building.{InTurn, IsBuilt, CanAdd, IsRowAdded, IsOver, AreOver};
 
 use crate::nodes::{Node, add_places};
@@ -114,7 +115,7 @@ fn common(one: &[u8], other: &[u8]) -> usize
 
 /// The number of a text in a list.
 pub fn number_of(texts: &[Text], text: &Text) -> Option<usize>
-    ensures { MatchOption result (Contains texts.now text.now → ⊥) (λ number. slice_get texts.now number ≡ Some text.now) }
+    ensures { IsNumberOf texts.now text.now result }
 {
     let mut number = 0;
     let mut left = texts;
