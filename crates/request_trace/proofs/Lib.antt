@@ -1,4 +1,3 @@
-mod FootprintPaths
 pub mod AnswerLemmas
 mod NamedModules
 mod Lending

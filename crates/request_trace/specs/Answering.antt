@@ -12,7 +12,7 @@ use Rattle.tree_spec.specs.States.{FolderState}
 use Rattle.tree_spec.specs.Trees.{Tree}
 use Rattle.trace_spec.specs.declared.TraceFault.{TraceFault}
 use Rattle.trace_spec.specs.declared.TraceFault.TheVariants.{Limit, ReadFault, Memory}
-use Rattle.trace_spec.specs.Questions.{Question, Answer, put, answers, always}
+use Rattle.trace_spec.specs.Questions.{Question, Answer, put, answers}
 use Rattle.package_lookup.specs.declared.known.Known.{Known}
 use Rattle.package_lookup.specs.Looked.{Sees}
 use Rattle.package_lookup.specs.declared.lookup.Lookup.{Lookup}
@@ -32,7 +32,6 @@ abbrev pub told_by : Sights → Told Trail Question Answer
 told_by sights =
     record {
       answers = answers sights;
-      always = always sights;
       looks = λ question. looks sights (put question);
       fresh = λ question. true;
     }

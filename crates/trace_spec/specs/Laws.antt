@@ -473,6 +473,12 @@ without_question (stopped limit trail) = stopped limit (begun trail)
 abbrev pub looks_of : Sights → List Question → List (List ℕ)
 looks_of sights asked = flat_map (λ question. looks sights (put question)) asked
 
+-- own: a question that was asked by the end of the trace looks at the path, whether the trace is refused or not
+pub record IsLookedAt (sights : Sights) (config : Config) (path : List ℕ) : Type 0 where
+  pub asked : List Question
+  pub are : asked_by_end sights config ≡ Some asked
+  pub looks : Contains (looks_of sights asked) path
+
 -- the trail has counted the looks of a generation
 pub record CountsGeneration (sights : Sights) (config : Config) (trail : Trail) : Type 0 where
   pub paths : trail.paths ≡ footprint sights (generation config)
@@ -484,8 +490,8 @@ pub record StopsGeneration (sights : Sights) (config : Config) (name : LimitName
   pub first : IsFirstLimit look_limits sights no_trail (looks sights (generation config)) name before
   pub same : begun before ≡ begun trail
 
--- a generation looks at what its questions look at; its limits are those of these looks; and what stands at the paths
--- of its footprint decides it
+-- a generation looks at what its questions look at; its limits are those of these looks; what stands at the paths of
+-- its footprint decides it; and what its trace looks at by its end is of that
 pub record LooksAre (sights : Sights) (config : Config) : Type 0 where
   pub looks : looks sights (generation config) ≡ looks_of sights (questions (always sights) (trace config))
   pub same_end : without_question (evaluated (answers sights) no_trail (trace config))
@@ -498,8 +504,10 @@ pub record LooksAre (sights : Sights) (config : Config) : Type 0 where
       → StopsGeneration sights config name trail
   pub decided : (other : Sights) → AgreesOn sights other (footprint sights (generation config))
       → traced sights config ≡ traced other config
+  pub within : (path : List ℕ) → IsLookedAt sights config path
+      → Contains (footprint sights (generation config)) path
 
 -- whatever stands at the paths, a generation looks at what its questions look at, its limits are those of these looks,
--- and what stands at the paths of its footprint decides it
+-- what stands at the paths of its footprint decides it, and these are all at which its trace looks by its end
 abbrev pub LooksAreOfQuestions : Type 0
 LooksAreOfQuestions = (sights : Sights) (config : Config) → LooksAre sights config

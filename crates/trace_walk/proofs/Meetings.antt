@@ -6,10 +6,9 @@ use Rattle.std.proofs.Common.{◌≡◌, ◌≤◌, ◌+◌, ◌++◌, ◌∷◌
 use Rattle.std.specs.Prelude.{Contains, filter, cond}
 use Rattle.std.proofs.lemmas.Grind.{flat_map-append}
 use Rattle.std.proofs.lemmas.List.Elements.{Contains-append_left, Contains-append_right}
-use Rattle.asking_spec.specs.Askings.{Asking, answered, ask, outcome, questions, and_then, on_ok, and_ok}
+use Rattle.asking_spec.specs.Askings.{Asking, answered, ask, and_then, on_ok, and_ok}
 use Rattle.asking_spec.specs.Evaluation.{Ended, ends, stopped, then_ended, Answers, evaluated}
-use Rattle.asking_spec.proofs.AskingLemmas.{questions_then}
-use Rattle.asking_spec.proofs.EvaluationLemmas.{ends_then, refused_then, stopped_then, ends_outcome}
+use Rattle.asking_spec.proofs.EvaluationLemmas.{ends_then, refused_then, stopped_then}
 use Rattle.tree_spec.specs.declared.LimitName.{LimitName}
 use Rattle.tree_spec.specs.Counts.{Rose}
 use Rattle.trace_spec.specs.declared.TraceFault.{TraceFault}
@@ -52,36 +51,7 @@ comes_then answers before middle after part next value result one two =
 pub told_err : {X Y : Type 0} (fault : TraceFault) → IsTold {X = Y} (Err fault) → IsTold {X = X} (Err fault)
 told_err fault told = ((λ e. told.0 (cc)), (λ e. told.1 (cc)))
 
--- ---- what a part asks for, the whole does
-
-pub asked_first : {T Q : Type 0} {A : Q → Type 0} {X Y : Type 0} (before : Outside T Q A)
-    (part : Asking Q A (Result X TraceFault)) (next : X → Asking Q A (Result Y TraceFault)) (path : List ℕ)
-    → IsAskedBy before part path → IsAskedBy before (and_ok part next) path
-asked_first before part next path is = λ told tells always.
-    let rest = questions told.always (on_ok next (outcome told.always part)) in
-    subst (λ paths. Contains paths path)
-    (sym (ap (looks_of told) (questions_then told.always part (on_ok next))
-    ∙ flat_map-append told.looks (questions told.always part) rest))
-    (Contains-append_left (looks_of told (questions told.always part)) (looks_of told rest) path (is told tells always))
-
-pub asked_behind : {T Q : Type 0} {A : Q → Type 0} {X Y : Type 0} (before middle : Outside T Q A)
-    (part : Asking Q A (Result X TraceFault)) (next : X → Asking Q A (Result Y TraceFault)) (value : X)
-    (path : List ℕ) → Met before part (Ok value) middle → IsAskedBy middle (next value) path
-    → IsAskedBy before (and_ok part next) path
-asked_behind {X = X} before middle part next value path first is = λ told tells always.
-    let one = first.comes told tells ((λ e. cc), (λ e. cc)) in
-    let found : succeeded X value ≡ outcome told.always part =
-    ends_outcome told.answers told.always always before.state middle.state part (Ok value)
-    (ended_ok (evaluated told.answers before.state part) value middle.state one.is one.leaves) in
-    let rest = questions told.always (next value) in
-    subst (λ paths. Contains paths path)
-    (sym (ap (looks_of told) (questions_then told.always part (on_ok next)
-    ∙ ap (λ r. questions told.always part ++ questions told.always (on_ok next r)) (sym found))
-    ∙ flat_map-append told.looks (questions told.always part) rest))
-    (Contains-append_right (looks_of told (questions told.always part)) (looks_of told rest) path
-    (is told (first.told told tells) always))
-
--- ---- how many fresh questions a whole asks
+-- ---- what is asked, by its parts
 
 then_asked : {X Y T S Q : Type 0} (first : Ended X T S) (goes : X → T → Ended Y T S) (whole part : X → T → List Q)
     (rest : Y → T → List Q) → ((x : X) (t : T) → whole x t ≡ part x t ++ asked_then (goes x t) rest)
@@ -99,6 +69,37 @@ asked_in_parts answers state (ask question more) next =
     (then_asked (answers state question) (λ answer after. evaluated answers after (more answer)) _ _
     (λ value after. asked_to_end answers after (next value))
     (λ answer after. asked_in_parts answers after (more answer) next))
+
+-- ---- what a part asks for, the whole does
+
+pub asked_first : {T Q : Type 0} {A : Q → Type 0} {X Y : Type 0} (before : Outside T Q A)
+    (part : Asking Q A (Result X TraceFault)) (next : X → Asking Q A (Result Y TraceFault)) (path : List ℕ)
+    → IsAskedBy before part path → IsAskedBy before (and_ok part next) path
+asked_first before part next path is = λ told tells.
+    let first = asked_to_end told.answers before.state part in
+    let rest = asked_then (evaluated told.answers before.state part)
+    (λ value after. asked_to_end told.answers after (on_ok next value)) in
+    subst (λ paths. Contains paths path)
+    (sym (ap (looks_of told) (asked_in_parts told.answers before.state part (on_ok next))
+    ∙ flat_map-append told.looks first rest))
+    (Contains-append_left (looks_of told first) (looks_of told rest) path (is told tells))
+
+pub asked_behind : {T Q : Type 0} {A : Q → Type 0} {X Y : Type 0} (before middle : Outside T Q A)
+    (part : Asking Q A (Result X TraceFault)) (next : X → Asking Q A (Result Y TraceFault)) (value : X)
+    (path : List ℕ) → Met before part (Ok value) middle → IsAskedBy middle (next value) path
+    → IsAskedBy before (and_ok part next) path
+asked_behind before middle part next value path met is = λ told tells.
+    let one = met.comes told tells ((λ e. cc), (λ e. cc)) in
+    let first = asked_to_end told.answers before.state part in
+    let rest = asked_to_end told.answers middle.state (next value) in
+    subst (λ paths. Contains paths path)
+    (sym (ap (looks_of told) (asked_in_parts told.answers before.state part (on_ok next)
+    ∙ ap (λ end. first ++ asked_then end (λ value after. asked_to_end told.answers after (on_ok next value)))
+    (ended_ok (evaluated told.answers before.state part) value middle.state one.is one.leaves))
+    ∙ flat_map-append told.looks first rest))
+    (Contains-append_right (looks_of told first) (looks_of told rest) path (is told (met.told told tells)))
+
+-- ---- how many fresh questions a whole asks
 
 one_more : {Q : Type 0} (is : Bool) (question : Q) (whole part : List Q) (rest : ℕ) → length whole ≡ length part + rest
     → length (cond is (question ∷ whole) whole) ≡ length (cond is (question ∷ part) part) + rest
