@@ -2,8 +2,8 @@
 --     own_file command config      the path of the file that the command needs before its trace
 --     AsksOwn own old after      the folder was asked for these paths, or for nothing
 --     AsksFew config holds own old after      and then for further paths, for none of them twice, at which in a told
---                              tree its trace looks by its end: where a limit ends it, for a question up to the one that
---                              the limit stops. Which of that question's looks are behind the limit isn't said here
+--                              tree its trace looks up to where it ends: where a limit ends it, up to the look that
+--                              passes the limit
 --     IsConfigAt words command config state      a told tree gives the words this config; whatever is told, they can
 --                              have it
 --     HasMap config holds      a map is generated for the config, where the tree is told

@@ -19,7 +19,7 @@ use Rattle.tree_spec.specs.declared.LimitName.{LimitName}
 use Rattle.tree_spec.specs.Limits.{limit_number}
 use Rattle.tree_spec.specs.declared.LimitName.TheVariants.{File, Bytes, Looks, Modules, ModuleRequests, Requests, Specifier, Entries, Brackets, Depth, Session, Map, Choices}
 use Rattle.tree_spec.specs.LookAskings.{Sights, looks}
-use Rattle.tree_spec.specs.LookLimits.{Trail, begun, no_trail}
+use Rattle.tree_spec.specs.LookLimits.{Trail, begun, no_trail, look_limits, limited}
 use Rattle.tree_spec.specs.States.{FolderState}
 use Rattle.tree_spec.specs.Trees.{Tree}
 use Rattle.tree_spec.proofs.ToldStates.{if_all}
@@ -36,9 +36,10 @@ use Rattle.package_lookup.specs.Looked.{Sees}
 use Rattle.package_lookup.specs.Answered.{State, state, Tells, IsLookOf, Answered}
 use Rattle.package_lookup.specs.Answered as lookup
 use Rattle.package_lookup.specs.Responses.{Response, given, fails, passes, not_read, no_memory, never, by_limit}
+use Rattle.package_lookup.specs.Trails.{IsReached}
 use Rattle.package_lookup.proofs.Questions.{sees_still}
 use Rattle.package_lookup.proofs.Learnings.{learns_as, learns_by, learns_at, learns_nothing}
-use Rattle.trace_walk.specs.Meeting.{Told, Kept, IsTold, asked_then, asked_to_end, looks_of, IsAskedBy, fresh_to_end, Comes, Met, fine}
+use Rattle.trace_walk.specs.Meeting.{Told, Kept, IsTold, asked_then, asked_to_end, looks_to_end, IsAskedBy, fresh_to_end, Comes, Met, fine}
 use Rattle.module_sources.specs.declared.source.Source.{Source}
 use Rattle.module_sources.specs.declared.source.NoSource.{NoSource}
 use Rattle.module_sources.specs.Shown.{FindsSource, IsSource}
@@ -49,7 +50,7 @@ use Rattle.package_lookup.specs.Lookups.{IsSameLookup}
 use Rattle.package_lookup.specs.declared.lookup.Lookup.{Lookup}
 use Rattle.request_trace.specs.Answering.{result_by, told_by, ToldBy, answers_of, references_of}
 use Rattle.request_trace.specs.Tracing.{known_of, IsOfFootprint, TakesSteps, Traces}
-use Rattle.request_trace.proofs.AskedQuestions.{all_asked}
+use Rattle.request_trace.proofs.WalkLooks.{reached_to_end, walk_looks}
 
 pub always_ready : {A E : Type 0} (result : Result A E) → OnOk result ⊤
 always_ready (Ok value) = tt
@@ -131,16 +132,17 @@ module _ (references : List ℕ) (taken spent : ℕ) (before after : State) (que
   asked_by : (path : List ℕ) → IsLookOf (afresh before) (put question) path
       → IsAskedBy (answers_of references taken before) (fine (ask question answered)) path
   asked_by path is told by =
-      let each : (sights : Sights) → Sees by.tree before.known sights → Contains (looks sights (put question)) path =
+      let each : (sights : Sights) → Sees by.tree before.known sights
+      → IsReached look_limits sights (begun before.trail) (looks sights (put question)) path =
       subst (λ holds. IfSome holds
-      (λ tree. (sights : Sights) → Sees tree before.known sights → Contains (looks sights (put question)) path))
+      (λ tree. (sights : Sights) → Sees tree before.known sights
+      → IsReached look_limits sights (begun before.trail) (looks sights (put question)) path))
       by.holds is in
-      subst
-      (λ (t : Answering). Contains (looks_of t (asked_to_end t.answers before.trail (fine (ask question answered)))) path)
+      subst (λ (t : Answering). Contains (looks_to_end t before.trail (fine (ask question answered))) path)
       (sym by.are)
-      (Contains-append_left (looks by.sights (put question))
-      (looks_of (told_by by.sights) (asked_then (answers by.sights before.trail question) (λ answer after. []))) path
-      (each by.sights by.sees))
+      (Contains-append_left (asked_to_end (limited look_limits by.sights) (begun before.trail) (put question))
+      (asked_then (answers by.sights before.trail question) (λ answer after. [])) path
+      (reached_to_end by.sights (begun before.trail) (put question) path (each by.sights by.sees)))
 
   steps_told : spent ≤ taken + 1 → (told : Answering) → ToldBy before.folder before.known told
       → spent ≤ taken + length (fresh_to_end told before.trail (fine (ask question answered)))
@@ -186,13 +188,17 @@ of_footprint : (told : Option Tree) (references : List ℕ) (taken : ℕ) (confi
     → IsAskedBy (answers_of references taken before) (trace config) path
     → IfSome told (λ tree. (sights : Sights) → Sees tree before.known sights → IsLookedAt sights config path)
 of_footprint None references taken config before path holds fresh is = tt
-of_footprint (Some tree) references taken config before path holds fresh is = λ sights sees. record {
-  asked = asked_to_end (answers sights) no_trail (trace config);
-  are = all_asked sights config;
-  looks = subst
-      (λ trail. Contains (looks_of (told_by sights) (asked_to_end (answers sights) trail (trace config))) path) fresh
-      (is (told_by sights) (record { tree = tree; sights = sights; holds = holds; sees = sees; are = refl }));
-}
+of_footprint (Some tree) references taken config before path holds fresh is = λ sights sees.
+    let reached = walk_looks sights no_trail no_trail (trace config) path refl
+    (subst (λ trail. Contains (looks_to_end (told_by sights) trail (trace config)) path) fresh
+    (is (told_by sights) (record { tree = tree; sights = sights; holds = holds; sees = sees; are = refl }))) in
+    record {
+      front = reached.front;
+      back = reached.back;
+      split = reached.split;
+      before = reached.before;
+      passes = reached.passes;
+    }
 
 pub traces_by : (references others : List ℕ) (taken spent : ℕ) (config : Config) (before after : State)
     (result : Result Gathered TraceFault) → before.trail ≡ no_trail

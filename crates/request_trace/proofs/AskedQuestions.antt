@@ -53,7 +53,7 @@ asked_listed answers before (ask question next) =
     (λ answer after. asked_to_end answers after (next answer))
     (λ answer middle. asked_listed answers middle (next answer))
 
-pub all_asked : (sights : Sights) (config : Config)
+all_asked : (sights : Sights) (config : Config)
     → asked_by_end sights config ≡ Some (asked_to_end (answers sights) no_trail (trace config))
 all_asked sights config = asked_listed (answers sights) none_asked (trace config)
 

@@ -1,3 +1,4 @@
+mod WalkLooks
 pub mod AnswerLemmas
 mod NamedModules
 mod Lending

@@ -1,6 +1,6 @@
 -- The trace of a folder, of which something is known.
---     IsOfFootprint config before known path       where a tree is told, its trace looks at the path by its end, by all
---                                                  that looks tell
+--     IsOfFootprint config before known path       where a tree is told, its trace looks at the path up to where it ends,
+--                                                  by all that looks tell
 --     Traces config before known result after later      the trace, or its first refusal
 --     CountsModules gathered count      as many modules as that, as many sources, which are read, and no more than there
 --                                       may be
@@ -40,15 +40,15 @@ use Rattle.trace_walk.specs.Kinds.{IsOfWalk}
 abbrev pub known_of : FolderState → Known → State
 known_of folder known = state folder known no_trail
 
--- own: whatever stands at each path as far as a look tells. The generation's footprint has each such path, and those of
--- the questions behind a limit that stops the trace too
+-- own: whatever stands at each path as far as a look tells. The generation's footprint has each such path, and those
+-- behind a limit that stops the trace too
 abbrev pub IsOfFootprint : Config → FolderState → Known → List ℕ → Type 0
 IsOfFootprint config before known path =
     IfSome before.holds
     (λ tree. (sights : Sights) → Sees tree known sights → IsLookedAt sights config path)
 
 -- own: unless a look fails or memory is wanting, the result is the definition's, whatever stands at each path as far as
--- looks tell. Whatever the result is, the folder was asked for such paths alone at which the trace looks by its end
+-- looks tell. Whatever the result is, the folder was asked for such paths alone
 pub record Traces (config : Config) (before : FolderState) (known : Known) (result : Result Gathered TraceFault)
     (after : FolderState) (later : Known) : Type 0 where
   pub is :

@@ -1,32 +1,29 @@
 -- What a generation looks at.
-use Rattle.std.specs.Prelude.{◌≡◌, ◌+◌, ◌++◌, ℕ, Bool, true, false, List, [], ◌∷◌, Option, Some, Result, Ok, Err}
-use Rattle.std.specs.Prelude.{if◌then◌else◌, Contains}
-use Rattle.std.proofs.Common.{refl, sym, ap, ◌∙◌, subst, arith, append_assoc, append-nil}
-use Rattle.std.proofs.lemmas.Grind.{flat_map-append}
-use Rattle.std.proofs.lemmas.List.Elements.{Contains-append_left}
+use Rattle.std.specs.Prelude.{◌≡◌, ◌+◌, ◌++◌, ℕ, Bool, true, false, List, [], ◌∷◌, Option, Result, Ok, Err}
+use Rattle.std.specs.Prelude.{if◌then◌else◌}
+use Rattle.std.proofs.Common.{refl, sym, ap, ◌∙◌, subst, arith}
 use Rattle.asking_spec.specs.Askings.{Asking, answered, ask, questions, through}
-use Rattle.asking_spec.specs.Evaluation.{Ended, ends, stopped, then_ended, evaluated, Asked, with_asked, keep_asked, listed}
+use Rattle.asking_spec.specs.Evaluation.{ends, stopped, then_ended, evaluated}
 use Rattle.asking_spec.proofs.AskingLemmas.{questions_then}
 use Rattle.asking_spec.proofs.EvaluationLemmas.{evaluated_then}
 use Rattle.tree_spec.specs.declared.Entry.{Entry}
 use Rattle.tree_spec.specs.declared.LimitName.{LimitName}
 use Rattle.tree_spec.specs.declared.LimitName.TheVariants.{File, Looks, Bytes}
-use Rattle.tree_spec.specs.LookAskings.{Sights, LookAsking, looks, with_seen, footprint}
+use Rattle.tree_spec.specs.LookAskings.{Sights, LookAsking, looks, with_seen}
 use Rattle.tree_spec.specs.LookLimits.{Trail, no_trail, begun, look_limits, size_at, told, limited, new_size}
-use Rattle.tree_spec.proofs.Contained.{footprint_contains}
 use Rattle.tree_spec.proofs.FootprintSets.{trail_of}
 use Rattle.tree_spec.proofs.LimitedLooks.{LookEnd, ends_counted, first_limit_stops, same_limited_law}
 use Rattle.trace_spec.specs.declared.TraceFault.{TraceFault}
 use Rattle.trace_spec.specs.Modules.{Config}
 use Rattle.trace_spec.specs.Questions.{Question, Answer, put, answers, always}
 use Rattle.trace_spec.specs.Checks.{Gathered}
-use Rattle.trace_spec.specs.Traces.{trace, result_of, state_of, traced, generation}
-use Rattle.trace_spec.specs.Laws.{none_asked, without_question, looks_of, IsLookedAt, CountsGeneration, StopsGeneration}
+use Rattle.trace_spec.specs.Traces.{trace, result_of, traced, generation}
+use Rattle.trace_spec.specs.Laws.{without_question, looks_of, CountsGeneration, StopsGeneration}
 use Rattle.trace_spec.specs.Laws.{LooksAreOfQuestions}
-use Rattle.trace_spec.proofs.Steps.{answers_always}
+use Rattle.trace_spec.proofs.LookedPaths.{looked_within, looked_up_to}
 
 -- ends that differ in the paths of the last question alone
-abbrev Alike : {X : Type 0} → LookEnd X → LookEnd X → Type 0
+abbrev pub Alike : {X : Type 0} → LookEnd X → LookEnd X → Type 0
 Alike one other = without_question one ≡ without_question other
 
 from_zero : (n : ℕ) → 0 + n ≡ n
@@ -93,7 +90,7 @@ module _ (sights : Sights) where
       (λ found after. evaluated (limited look_limits sights) after (next found))
       (λ p s q r. looks_alike p s q r (next (sights path)))
 
-  looks_behind : {X : Type 0} (one other : Trail) (asking : LookAsking X) → begun one ≡ begun other
+  pub looks_behind : {X : Type 0} (one other : Trail) (asking : LookAsking X) → begun one ≡ begun other
       → Alike (evaluated (limited look_limits sights) one asking) (evaluated (limited look_limits sights) other asking)
   looks_behind one other asking same =
       looks_alike one.paths one.size one.question other.question asking
@@ -122,70 +119,6 @@ module _ (sights : Sights) where
       questions_then sights (put question) (λ answer. through put (next answer))
       ∙ ap (λ more. looks sights (put question) ++ more) (looks_are (next (always sights question)))
 
-  -- ---- what is asked by the end
-
-  -- what was asked are the questions before, and then a part of these, from the first on
-  record IsPart (front asked all : List Question) : Type 0 where
-    part : List Question
-    rest : List Question
-    is : asked ≡ front ++ part
-    of : all ≡ part ++ rest
-
-  part_by : {X : Type 0} (question : Question) (next : Answer question → Asking Question Answer X)
-      (front asked : List Question) (first : Ended (Answer question) Trail LimitName)
-      → ((answer : Answer question) (after : Trail) → first ≡ ends answer after → answer ≡ always sights question)
-      → ((answer : Answer question) (middle : Asked Trail Question)
-      → (state_of (evaluated (listed (answers sights)) middle (next answer))).asked ≡ Some asked
-      → middle.asked ≡ Some (front ++ question ∷ [])
-      → IsPart (front ++ question ∷ []) asked (questions (always sights) (next answer)))
-      → (state_of (then_ended (keep_asked (Some (front ++ question ∷ [])) first)
-      (λ answer middle. evaluated (listed (answers sights)) middle (next answer)))).asked ≡ Some asked
-      → IsPart front asked (questions (always sights) (ask question next))
-  part_by question next front asked (ends answer after) are more e =
-      let found = more answer (record { state = after; asked = Some (front ++ question ∷ []) }) e refl in
-      record {
-        part = question ∷ found.part;
-        rest = found.rest;
-        is = found.is ∙ append_assoc front (question ∷ []) found.part;
-        of = ap (λ a. question ∷ questions (always sights) (next a)) (sym (are answer after refl))
-            ∙ ap (λ more. question ∷ more) found.of;
-      }
-  part_by question next front asked (stopped limit after) are more e = record {
-    part = question ∷ [];
-    rest = questions (always sights) (next (always sights question));
-    is = (let same : front ++ question ∷ [] ≡ asked = cc in sym same);
-    of = refl;
-  }
-
-  asked_part : {X : Type 0} (asking : Asking Question Answer X) (before : Asked Trail Question)
-      (front asked : List Question) → before.asked ≡ Some front
-      → (state_of (evaluated (listed (answers sights)) before asking)).asked ≡ Some asked
-      → IsPart front asked (questions (always sights) asking)
-  asked_part (answered value) before front asked begins e = record {
-    part = [];
-    rest = [];
-    is = (let same : front ≡ asked = cc in sym same) ∙ sym (append-nil front);
-    of = refl;
-  }
-  asked_part (ask question next) before front asked begins e =
-      part_by question next front asked (answers sights before.state question)
-      (λ answer after is. answers_always sights before.state after question answer is)
-      (λ answer middle ended is. asked_part (next answer) middle (front ++ question ∷ []) asked is ended)
-      (subst
-      (λ list. (state_of (then_ended (keep_asked (with_asked list (question ∷ [])) (answers sights before.state question))
-      (λ answer middle. evaluated (listed (answers sights)) middle (next answer)))).asked ≡ Some asked) begins e)
-
-  looked_within : (config : Config) (path : List ℕ) → IsLookedAt sights config path
-      → Contains (footprint sights (generation config)) path
-  looked_within config path is =
-      let part = asked_part (trace config) none_asked [] is.asked refl is.are in
-      footprint_contains sights (generation config) path
-      (subst (λ paths. Contains paths path)
-      (sym (looks_are (trace config) ∙ ap (looks_of sights) part.of
-      ∙ flat_map-append (λ question. looks sights (put question)) part.part part.rest))
-      (Contains-append_left (looks_of sights part.part) (looks_of sights part.rest) path
-      (subst (λ asked. Contains (looks_of sights asked) path) part.is is.looks)))
-
   -- ---- the whole generation
 
   module _ (config : Config) where
@@ -212,12 +145,9 @@ module _ (sights : Sights) where
     stops name trail (stopped limit after) is same =
         let limits : limit ≡ name = cc in
         let trails : begun after ≡ begun trail = cc in
-        record {
-          before = after;
-          first = (first_limit_stops look_limits sights no_trail (generation config) name after).0
-              (is ∙ ap (λ l. stopped l after) limits);
-          same = trails;
-        }
+        let first = (first_limit_stops look_limits sights no_trail (generation config) name after).0
+        (is ∙ ap (λ l. stopped l after) limits) in
+        record { before = after; first = first; same = trails; up_to = looked_up_to sights config name after first }
 
   result_without : (end : LookEnd (Result Gathered TraceFault)) → result_of (without_question end) ≡ result_of end
   result_without (ends result trail) = refl
