@@ -1,6 +1,9 @@
 //! A specifier that begins with `#` (Node.js, ECMAScript modules: PACKAGE_IMPORTS_RESOLVE).
 ghost use Rattle.std.specs.Prelude.{◌≡◌, Some, ◌||◌, codes, bytes_eq};
-ghost use Rattle.json_spec.specs.Value.{HasDistinctNames, AreDistinct};
+ghost use Rattle.json_spec.specs.Value.{AreDistinct};
+ghost use Rattle.exports_patterns.specs.Found.{keys_of};
+ghost use Rattle.exports_patterns.specs.Indexes.{IsIndex};
+ghost use Rattle.package_record.specs.Indexed.{IsSubpaths};
 ghost use Rattle.url_spec.specs.Specifiers.{begins, ends_in_slash};
 ghost use Rattle.node_spec.specs.PackageImportsExportsResolve.{by_key};
 ghost use Rattle.node_spec.specs.PackageImportsResolve as spec;
@@ -16,9 +19,11 @@ use crate::fault::behind;
 use crate::package_imports_exports_resolve::target_of;
 use crate::texts::{begins, ends_in_slash};
 use condition_match::Conditions;
+use exports_patterns::Keys;
 use node_spec::Cause;
 use ordered_json::{Members, Value};
 use package_lookup::{Known, Trail, record_of, scope_of};
+use package_record::Subpaths;
 use std::alloc::Global;
 use tree_model::{Folder, Path};
 use web_url::FileUrl;
@@ -92,20 +97,26 @@ fn imported<F: Folder>(
     trail: &mut Trail,
     scope: &Path,
     text: &str,
-    imports: &Value,
+    imports: &Subpaths,
     conditions: &Conditions,
 ) -> Result<FileUrl, NodeFault>
-    requires { HasDistinctNames (json_of imports.now) }
+    requires { IsSubpaths imports.now }
     ensures { Answered (state (F.state folder.old) known.old trail.old)
-        (spec.imported conditions.now scope.now text.now (json_of imports.now))
+        (spec.imported conditions.now scope.now text.now (json_of imports.now.value))
         (responded itself result) (state (F.state folder.new) known.new trail.new) }
 {
-    match imports {
-        Value::Object(members) => {
-            import_at(
-                alloc, known, folder, trail, scope, text, members, conditions,
-            )
-        }
+    match &imports.value {
+        Value::Object(members) => import_at(
+            alloc,
+            known,
+            folder,
+            trail,
+            scope,
+            text,
+            members,
+            &imports.index.keys,
+            conditions,
+        ),
         Value::Null => Err(NodeFault::Refused(Cause::ImportNotDefined)),
         Value::Bool(_) => Err(NodeFault::Refused(Cause::ImportNotDefined)),
         Value::Number(_) => Err(NodeFault::Refused(Cause::ImportNotDefined)),
@@ -123,16 +134,19 @@ fn import_at<F: Folder>(
     scope: &Path,
     text: &str,
     members: &Members,
+    keys: &Keys,
     conditions: &Conditions,
 ) -> Result<FileUrl, NodeFault>
-    requires { AreDistinct (members_of (pairs_of members.now)) }
+    requires distinct { AreDistinct (members_of (pairs_of members.now)) }
+    requires indexed { IsIndex (keys_of members.now) keys.now }
     ensures { Answered (state (F.state folder.old) known.old trail.old)
         (by_key (spec.import_paths conditions.now scope.now (members_of (pairs_of members.now))) text.now)
         (responded itself result) (state (F.state folder.new) known.new trail.new) }
 {
-    match target_of(members, text) {
-        None => Err(NodeFault::Refused(Cause::ImportNotDefined)),
-        Some((target, star)) => import_target(
+    match target_of(alloc, members, keys, text) {
+        Err(_) => Err(NodeFault::Memory),
+        Ok(None) => Err(NodeFault::Refused(Cause::ImportNotDefined)),
+        Ok(Some((target, star))) => import_target(
             alloc, known, folder, trail, scope, target, star, conditions,
         ),
     }

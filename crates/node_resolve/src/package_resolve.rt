@@ -1,10 +1,10 @@
 //! A bare specifier from a folder (Node.js, ECMAScript modules: PACKAGE_RESOLVE).
 ghost use Rattle.std.specs.Prelude.{◌≡◌, Some, option_map};
-ghost use Rattle.json_spec.specs.Value.{HasDistinctNames};
 ghost use Rattle.node_spec.specs.PackageResolve as spec;
 ghost use Rattle.ordered_json.specs.Shown.{json_of};
 ghost use Rattle.package_lookup.specs.Answered.{state, Answered};
 ghost use Rattle.package_lookup.specs.Responses.{itself};
+ghost use Rattle.package_record.specs.Indexed.{IsSubpaths};
 ghost use Rattle.package_record.specs.Shown.{record_shown};
 ghost use Rattle.node_resolve.specs.Asked.{subpath_of, IsSubpath};
 ghost use Rattle.node_resolve.specs.Responses.{responded, Gives};
@@ -151,13 +151,13 @@ fn resolve_by_record<F: Folder>(
     of_package: &Package,
     conditions: &Conditions,
 ) -> Result<FileUrl, NodeFault>
-    requires names { HasDistinctNames (json_of of_package.now.exports) }
+    requires names { IsSubpaths of_package.now.exports }
     requires subpath { IsSubpath subpath.now }
     ensures { Answered (state (F.state folder.old) known.old trail.old)
         (spec.by_record conditions.now package_folder.now subpath.now (Some (record_shown of_package.now)))
         (responded itself result) (state (F.state folder.new) known.new trail.new) }
 {
-    if !is_null(&of_package.exports) {
+    if !is_null(&of_package.exports.value) {
         return exported(
             alloc,
             package_folder,

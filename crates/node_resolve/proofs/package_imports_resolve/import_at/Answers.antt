@@ -8,14 +8,14 @@ use Rattle.node_resolve.proofs.Answering.{refused_now}
 use Rattle.node_resolve.proofs.KeyLemmas.{key_none, key_some}
 use Rattle.node_resolve.proofs.package_imports_resolve.import_at.Goals as goal
 
-pub returns-in-None : goal.returns-in-None
-returns-in-None g c =
+pub returns-in-Ok-None : goal.returns-in-Ok-None
+returns-in-Ok-None g c =
     asking_as _ _ _ _ _
     (sym (key_none (import_paths c.args.conditions.now c.args.scope.now (members_of (pairs_of c.args.members.now))) c.args.text.now
-    (rw c.in-None.is at c.target_of.ensures))) (refused_now _ ImportNotDefined)
+    (rw (c.in-Ok-None.is, c.in-Ok-None.field-0-is) at c.target_of.ensures))) (refused_now _ ImportNotDefined)
 
-pub returns-in-Some : goal.returns-in-Some
-returns-in-Some g c =
+pub returns-in-Ok-Some : goal.returns-in-Ok-Some
+returns-in-Ok-Some g c =
     asking_as _ _ _ _ _
     (sym (key_some (import_paths c.args.conditions.now c.args.scope.now (members_of (pairs_of c.args.members.now))) c.args.text.now _ _
-    (rw c.in-Some.is at c.target_of.ensures))) c.import_target.ensures
+    (rw (c.in-Ok-Some.is, c.in-Ok-Some.field-0-is) at c.target_of.ensures))) c.import_target.ensures
