@@ -1,2 +1,5 @@
 pub mod KeyLemmas
 mod SameMatch
+mod FrontLemmas
+mod GatherLemmas
+mod ChoiceLemmas

@@ -1,21 +1,21 @@
-use Rattle.std.proofs.Common.{take, sym, subst, arith}
-use Rattle.ordered_json.specs.Lists.{pairs_of}
-use Rattle.exports_patterns.specs.Found.{keys_of, Finds}
-use Rattle.exports_patterns.proofs.KeyLemmas.{all_found, next_key, length_before}
+use Rattle.exports_patterns.proofs.ChoiceLemmas.{exact_found, chosen, spanned}
+use Rattle.exports_patterns.proofs.KeyLemmas.{span_of_key}
 use Rattle.exports_patterns.proofs.pattern_keys.best_match.Goals as goal
 
-pub loop-index-preserved : goal.loop-index-preserved
-loop-index-preserved c =
-    let keys = keys_of c.args.keys.now in
-    let index = c.loop-index.index in
-    let name = c.in-Some.name.now in
-    record {
-      found = subst (λ done. Finds done c.args.key.now c.with_key-best.result) (sym (next_key keys index name c.in-Some.ensures))
-          (c.with_key-best.ensures.found (take index keys) (length_before keys index name c.in-Some.ensures) c.loop-index.invariant.found);
-      span = c.with_key-best.ensures.span c.loop-index.invariant.span;
-    }
+pub returns-in-Some-clause-choice : goal.returns-in-Some-clause-choice
+returns-in-Some-clause-choice c = λ names index.
+    let is = c.in-Some.ensures names index in
+    exact_found names c.args.keys.now.exact c.args.keys.now.patterns index c.args.asked.now c.in-Some.index is.0 is.1
 
-pub returns-after-loop-index-clause-choice : goal.returns-after-loop-index-clause-choice
-returns-after-loop-index-clause-choice c =
-    all_found (pairs_of c.args.keys.now) c.loop-index.index c.args.key.now c.loop-index.best
-    (omega (arith, c.len-index-end.ensures, c.loop-index-test.false)) c.loop-index.invariant.found
+pub returns-in-Some-clause-span : goal.returns-in-Some-clause-span
+returns-in-Some-clause-span c = λ names index. span_of_key c.args.asked.now c.in-Some.index c.utf8.asked
+
+pub returns-clause-choice : goal.returns-clause-choice
+returns-clause-choice c = λ names index.
+    chosen names c.args.keys.now.exact c.args.keys.now.patterns index c.args.asked.now (c.in_default.ensures names index)
+    c.best_pattern.result c.best_pattern.ensures
+
+pub returns-clause-span : goal.returns-clause-span
+returns-clause-span c = λ names index.
+    spanned names c.args.keys.now.exact c.args.keys.now.patterns index c.args.asked.now (c.in_default.ensures names index) c.utf8.asked
+    c.best_pattern.result c.best_pattern.ensures

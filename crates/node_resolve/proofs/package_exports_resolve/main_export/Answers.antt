@@ -8,19 +8,19 @@ use Rattle.node_resolve.proofs.package_exports_resolve.main_export.Goals as goal
 
 pub returns-in-Text : goal.returns-in-Text
 returns-in-Text c =
-    gives_as itself _ _ c.export_target.result (main_text c.args.conditions.now c.args.package_folder.now (json_of c.args.exports.now) _ (ap json_of c.in-Text.is ∙ json_of_text _)) c.export_target.ensures
+    gives_as itself _ _ c.export_target.result (main_text c.args.conditions.now c.args.package_folder.now (json_of c.args.exports.now.value) _ (ap json_of c.in-Text.is ∙ json_of_text _)) c.export_target.ensures
 
 pub returns-in-List : goal.returns-in-List
 returns-in-List c =
-    gives_as itself _ _ c.export_target-in-List.result (main_list c.args.conditions.now c.args.package_folder.now (json_of c.args.exports.now) _ (ap json_of c.in-List.is ∙ json_of_list _))
+    gives_as itself _ _ c.export_target-in-List.result (main_list c.args.conditions.now c.args.package_folder.now (json_of c.args.exports.now.value) _ (ap json_of c.in-List.is ∙ json_of_list _))
     c.export_target-in-List.ensures
 
 pub returns-then-has_dotted : goal.returns-then-has_dotted
 returns-then-has_dotted c =
-    gives_as itself _ _ c.dot_export.result (main_dotted c.args.conditions.now c.args.package_folder.now (json_of c.args.exports.now) _ (ap json_of c.in-Object.is ∙ json_of_object _)
-    (sym c.has_dotted.ensures ∙ c.if-has_dotted.true)) c.dot_export.ensures
+    gives_as itself _ _ c.dot_export.result (main_dotted c.args.conditions.now c.args.package_folder.now (json_of c.args.exports.now.value) _ (ap json_of c.in-Object.is ∙ json_of_object _)
+    (sym (c.requires.indexed _ (ap json_of c.in-Object.is ∙ json_of_object _)).has_dotted ∙ c.if-has_dotted.true)) c.dot_export.ensures
 
 pub returns-else-has_dotted : goal.returns-else-has_dotted
 returns-else-has_dotted c =
-    gives_as itself _ _ c.export_target-else-has_dotted.result (main_plain c.args.conditions.now c.args.package_folder.now (json_of c.args.exports.now) _ (ap json_of c.in-Object.is ∙ json_of_object _)
-    (sym c.has_dotted.ensures ∙ c.if-has_dotted.false)) c.export_target-else-has_dotted.ensures
+    gives_as itself _ _ c.export_target-else-has_dotted.result (main_plain c.args.conditions.now c.args.package_folder.now (json_of c.args.exports.now.value) _ (ap json_of c.in-Object.is ∙ json_of_object _)
+    (sym (c.requires.indexed _ (ap json_of c.in-Object.is ∙ json_of_object _)).has_dotted ∙ c.if-has_dotted.false)) c.export_target-else-has_dotted.ensures
