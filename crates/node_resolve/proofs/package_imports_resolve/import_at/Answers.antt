@@ -1,12 +1,16 @@
 use Rattle.ordered_json.specs.Lists.{pairs_of}
 use Rattle.ordered_json.specs.Shown.{members_of}
-use Rattle.std.proofs.Common.{sym}
+use Rattle.std.proofs.Common.{refl, sym}
 use Rattle.node_spec.specs.PackageImportsResolve.{import_paths}
 use Rattle.node_spec.specs.declared.Cause.TheVariants.{ImportNotDefined}
 use Rattle.package_lookup.proofs.Questions.{asking_as}
-use Rattle.node_resolve.proofs.Answering.{refused_now}
+use Rattle.node_resolve.proofs.Answering.{memory_now, refused_now}
+use Rattle.node_resolve.specs.declared.fault.NodeFault.TheVariants.{Memory}
 use Rattle.node_resolve.proofs.KeyLemmas.{key_none, key_some}
 use Rattle.node_resolve.proofs.package_imports_resolve.import_at.Goals as goal
+
+pub returns-in-Err-clause-answered : goal.returns-in-Err-clause-answered
+returns-in-Err-clause-answered g c = memory_now _ _ Memory refl
 
 pub returns-in-Ok-None-clause-answered : goal.returns-in-Ok-None-clause-answered
 returns-in-Ok-None-clause-answered g c =
