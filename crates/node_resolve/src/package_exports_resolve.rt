@@ -126,7 +126,7 @@ fn dot_of<'a>(members: &'a Members, keys: &Keys) -> Option<&'a Value>
     requires indexed { IsIndex (keys_of members.now) keys.now }
     ensures { field (codes ".") (members_of (pairs_of members.now)) ≡ found_field result }
 {
-    match place_of(keys, ".") {
+    match place_of(keys, members, ".") {
         None => None,
         Some(place) => match members.at(place) {
             None => None,
