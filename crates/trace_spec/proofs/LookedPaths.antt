@@ -1,7 +1,7 @@
 -- The paths at which a trace looks.
 --     looked_within        they are of the generation's footprint
 --     looked_up_to         where a limit stops it, they are those up to the look that passes it
-use Rattle.std.proofs.Common.{◌≡◌, ℕ, List, [], ◌∷◌, ◌++◌, Option, Result, Ok, Err, refl, sym, ap, ◌∙◌, subst}
+use Rattle.std.proofs.Common.{◌≡◌, ℕ, List, [], ◌∷◌, ◌++◌, Option, Result, Ok, Err, sym, ◌∙◌, subst}
 use Rattle.std.specs.Prelude.{Contains}
 use Rattle.std.proofs.lemmas.List.Elements.{Contains-append_right}
 use Rattle.asking_spec.specs.Evaluation.{ends, then_ended}
