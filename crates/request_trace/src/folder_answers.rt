@@ -33,11 +33,13 @@ pub struct FolderAnswers<'a, 'b, 'c, 'd, F: Folder, L: Ledger> {
 impl<'a, 'b, 'c, 'd, F: Folder, L: Ledger> Answerer for FolderAnswers<'a, 'b, 'c, 'd, F, L> {
     ghost use Rattle.std.specs.Prelude.{⊤, [], ◌∷◌};
     ghost use Rattle.package_lookup.specs.Answered.{state};
-    ghost use Rattle.request_trace.specs.Answering.{answers_of};
+    ghost use Rattle.request_trace.specs.Answering.{all_fresh, answers_of};
 
-    ghost state = { λ answers. answers_of (answers.folder.ghost_name ∷ answers.known.ghost_name
-        ∷ answers.steps.ghost_name ∷ answers.trail.ghost_name ∷ []) answers.steps.now
-        (state (F.state answers.folder.now) answers.known.now answers.trail.now) };
+    ghost state = { λ answers. answers_of all_fresh (record {
+      references = answers.folder.ghost_name ∷ answers.known.ghost_name ∷ answers.steps.ghost_name
+          ∷ answers.trail.ghost_name ∷ [];
+      names = [];
+    }) answers.steps.now (state (F.state answers.folder.now) answers.known.now answers.trail.now) };
 
     ghost ready = { λ answers. ⊤ };
 
@@ -71,8 +73,8 @@ impl<'a, 'b, 'c, 'd, F: Folder, L: Ledger> Answerer for FolderAnswers<'a, 'b, 'c
     }
 }
 
-// A module's source, as the walk is told it.
-fn source_answer(
+/// A module's source, as the walk is told it.
+pub fn source_answer(
     found: Result<Result<Source, NoSource>, LookupFault>,
 ) -> Result<Result<Source, NoSource>, TraceFault>
     requires { looked source_in found ≢ fails never }
@@ -88,8 +90,8 @@ fn source_answer(
     }
 }
 
-// Node's answer, as the walk is told it.
-fn node_answer(found: Result<Found, NodeFault>) -> Result<NodeAnswer, TraceFault>
+/// Node's answer, as the walk is told it.
+pub fn node_answer(found: Result<Found, NodeFault>) -> Result<NodeAnswer, TraceFault>
     requires { responded module_of found ≢ fails never }
     ensures is { resolutions result ≡ result_by (responded module_of found) }
     ensures kind { IfErr result IsOfAnswers }

@@ -5,17 +5,23 @@ use Rattle.package_lookup.specs.Responses.{looked}
 use Rattle.package_lookup.specs.Answered.{state}
 use Rattle.trace_spec.specs.Questions.{of_module}
 use Rattle.trace_walk.specs.Shown.{sources}
-use Rattle.request_trace.proofs.AnswerLemmas.{always_ready, met_by, kind_of, found_of}
+use Rattle.request_trace.specs.Answering.{all_fresh}
+use Rattle.request_trace.proofs.AnswerLemmas.{always_ready, step_for_each, met_by, kind_of, found_of}
 use Rattle.request_trace.proofs.folder_answers.FolderAnswersAnswerer.module.Goals as goal
 
 pub returns-clause-met : goal.returns-clause-met
 returns-clause-met g c =
-    met_by
-    (c.args.self.now.folder.ghost_name ∷ c.args.self.now.known.ghost_name ∷ c.args.self.now.steps.ghost_name
-    ∷ c.args.self.now.trail.ghost_name ∷ []) c.args.self.now.steps.now c.module_source-found.new.steps
+    met_by all_fresh
+    (record {
+      references = c.args.self.now.folder.ghost_name ∷ c.args.self.now.known.ghost_name ∷ c.args.self.now.steps.ghost_name
+          ∷ c.args.self.now.trail.ghost_name ∷ [];
+      names = [];
+    }) c.args.self.now.steps.now c.module_source-found.new.steps
     (state (g.F.Folder.state c.args.self.now.folder.now) c.args.self.now.known.now c.args.self.now.trail.now)
     (state (g.F.Folder.state c.module_source-found.new.folder) c.module_source-found.new.known c.module_source-found.new.trail)
-    (of_module c.args.path.now) (looked source_in c.module_source-found.result) (sources c.source_answer.result) (search rules) c.source_answer.ensures.is c.module_source-found.ensures.answered
+    (of_module c.args.path.now) (looked source_in c.module_source-found.result) (sources c.source_answer.result)
+    (step_for_each (state (g.F.Folder.state c.args.self.now.folder.now) c.args.self.now.known.now c.args.self.now.trail.now)
+    (of_module c.args.path.now) c.args.self.now.steps.now c.module_source-found.new.steps (search rules)) c.source_answer.ensures.is c.module_source-found.ensures.answered
 
 pub returns-clause-answered : goal.returns-clause-answered
 returns-clause-answered g c = record {
