@@ -1,3 +1,4 @@
 pub mod KnownLooks
 pub mod Entries
 pub mod Tables
+pub mod Freshness

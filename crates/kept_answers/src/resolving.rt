@@ -1,5 +1,5 @@
 //! The module to which a request leads, as it is kept or anew.
-ghost use Rattle.std.specs.Prelude.{◌≡◌, ◌≤◌, ◌+◌, List, Ok, IfOk, IfSome};
+ghost use Rattle.std.specs.Prelude.{◌≡◌, ◌≤◌, ◌+◌, List, Some, Ok, IfOk, IfSome};
 ghost use Rattle.tree_spec.specs.LookAskings.{look_at_each};
 ghost use Rattle.tree_spec.specs.LookLimits.{begun};
 ghost use Rattle.node_spec.specs.EsmResolve as spec;
@@ -8,6 +8,7 @@ ghost use Rattle.node_resolve.specs.Responses.{node_fault, responded};
 ghost use Rattle.package_lookup.specs.Answered.{state, Answered};
 ghost use Rattle.package_lookup.specs.Responses.{looked};
 ghost use Rattle.kept_spec.specs.Certificates.{LookSeen};
+ghost use Rattle.kept_answers.specs.Freshness.{request_looks, TakesStepIfFresh};
 ghost use Rattle.kept_answers.specs.KnownLooks.{done, AreLooksAt, IsKept};
 ghost use Rattle.kept_answers.specs.Tables.{IsRequestOf, AreRequests};
 
@@ -44,6 +45,8 @@ pub fn request_answer<F: Folder, L: Ledger>(
         (spec.node conditions.now parent.now specifier.now)
         (responded (λ found. module_of found.value) result) (state (F.state folder.new) known.new trail.new) }
     ensures cost { steps.new ≤ steps.old + 1 }
+    ensures fresh { TakesStepIfFresh (F.state folder.old) known.old
+        (request_looks kept.now (record { parent = parent.now; specifier = specifier.now })) steps.old steps.new }
     ensures names { next.new.names ≡ next.old.names }
     ensures right { IfSome (F.state folder.old).holds (λ tree. AreRequests next.old → AreRequests next.new) }
 {
@@ -93,6 +96,7 @@ fn request_again<F: Folder, L: Ledger>(
         (spec.node conditions.now parent.now specifier.now)
         (responded (λ found. module_of found.value) result) (state (F.state folder.new) known.new trail.new) }
     ensures cost { steps.new ≤ steps.old + 1 }
+    ensures fresh { TakesStepIfFresh (F.state folder.old) known.old (Some found.now.looks.value) steps.old steps.new }
     ensures names { next.new.names ≡ next.old.names }
     ensures right { IfSome (F.state folder.old).holds (λ tree. AreRequests next.old → AreRequests next.new) }
 {

@@ -1,5 +1,5 @@
 //! The source of a module, as it is kept or anew.
-ghost use Rattle.std.specs.Prelude.{◌≡◌, ◌≤◌, ◌+◌, ℕ, List, Ok, IfOk, IfSome};
+ghost use Rattle.std.specs.Prelude.{◌≡◌, ◌≤◌, ◌+◌, ℕ, List, Some, Ok, IfOk, IfSome};
 ghost use Rattle.tree_spec.specs.LookAskings.{look_at_each};
 ghost use Rattle.tree_spec.specs.LookLimits.{begun};
 ghost use Rattle.trace_spec.specs.Questions as spec;
@@ -8,6 +8,7 @@ ghost use Rattle.package_lookup.specs.Answered.{state, Answered};
 ghost use Rattle.package_lookup.specs.Responses.{looked};
 ghost use Rattle.kept_spec.specs.Certificates.{LookSeen};
 ghost use Rattle.kept_answers.specs.Entries.{source_seen};
+ghost use Rattle.kept_answers.specs.Freshness.{module_looks, TakesStepIfFresh};
 ghost use Rattle.kept_answers.specs.KnownLooks.{done, AreLooksAt, IsKept};
 ghost use Rattle.kept_answers.specs.Tables.{IsModuleOf, AreModules};
 
@@ -37,6 +38,7 @@ pub fn module_answer<F: Folder, L: Ledger>(
     ensures answered { Answered (state (F.state folder.old) known.old (begun trail.old)) (spec.module_source path.now)
         (looked source_in result) (state (F.state folder.new) known.new trail.new) }
     ensures cost { steps.new ≤ steps.old + 1 }
+    ensures fresh { TakesStepIfFresh (F.state folder.old) known.old (module_looks kept.now path.now) steps.old steps.new }
     ensures is { FindsSource result }
     ensures right { IfSome (F.state folder.old).holds (λ tree. AreModules next.old → AreModules next.new) }
 {
@@ -61,6 +63,7 @@ fn module_again<F: Folder, L: Ledger>(
     ensures answered { Answered (state (F.state folder.old) known.old (begun trail.old)) (spec.module_source path.now)
         (looked source_in result) (state (F.state folder.new) known.new trail.new) }
     ensures cost { steps.new ≤ steps.old + 1 }
+    ensures fresh { TakesStepIfFresh (F.state folder.old) known.old (Some found.now.looks) steps.old steps.new }
     ensures is { FindsSource result }
     ensures right { IfSome (F.state folder.old).holds (λ tree. AreModules next.old → AreModules next.new) }
 {

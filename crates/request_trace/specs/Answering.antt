@@ -1,11 +1,18 @@
 -- The answers to a walk's questions by looks at a folder.
 --     result_by response            what a question comes to, as the result of a call
---     told_by sights                the answers by what stands at each path, and the looks of each question; each is
+--     Freshness                     which questions are fresh, by what stands at each path
+--     all_fresh                     each question is
+--     told_by is_fresh sights       the answers by what stands at each path, the looks of each question, and which are
 --                                   fresh
---     ToldBy folder known told      these are the answers so, as far as looks tell
+--     ToldBy is_fresh folder known told      these are the answers so, as far as looks tell
+--     TakesStep is_fresh before question taken spent      no step, or one if the question is fresh, by all that looks
+--                                                         tell
+--     Stays                         the references, and names that stay
 --     references_of lookup steps    where the answers write
---     answers_of references steps looks      what answers, in this state, behind so many steps
-use Rattle.std.specs.Prelude.{◌≡◌, ℕ, true, List, [], ◌∷◌, Some, Result, Ok, Err}
+--     stays_of lookup steps         the same, where no names stay
+--     answers_of is_fresh stays steps looks      what answers, in this state, behind so many steps
+use Rattle.std.specs.Prelude.{◌≡◌, ◌≤◌, ◌+◌, ℕ, Bool, true, List, [], ◌∷◌, length, filter, Some, Result, Ok, Err}
+use Rattle.std.specs.Prelude.{IfSome}
 use Rattle.tree_spec.specs.LookAskings.{Sights, looks}
 use Rattle.tree_spec.specs.LookLimits.{Trail}
 use Rattle.tree_spec.specs.States.{FolderState}
@@ -28,33 +35,59 @@ result_by (fails not_read) = Err ReadFault
 result_by (fails no_memory) = Err Memory
 result_by (fails never) = Err Memory
 
-abbrev pub told_by : Sights → Told Trail Question Answer
-told_by sights =
+abbrev pub Freshness : Type 0
+Freshness = Sights → Question → Bool
+
+abbrev pub all_fresh : Freshness
+all_fresh sights question = true
+
+abbrev pub told_by : Freshness → Sights → Told Trail Question Answer
+told_by is_fresh sights =
     record {
       answers = answers sights;
       always = always sights;
       looks = λ question. looks sights (put question);
-      fresh = λ question. true;
+      fresh = is_fresh sights;
     }
 
-pub record ToldBy (folder : FolderState) (known : Known) (told : Told Trail Question Answer) : Type 0 where
+pub record ToldBy (is_fresh : Freshness) (folder : FolderState) (known : Known)
+    (told : Told Trail Question Answer) : Type 0 where
   pub tree : Tree
   pub sights : Sights
   pub holds : folder.holds ≡ Some tree
   pub sees : Sees tree known sights
-  pub are : told ≡ told_by sights
+  pub are : told ≡ told_by is_fresh sights
+
+abbrev pub TakesStep : Freshness → State → Question → ℕ → ℕ → Type 0
+TakesStep is_fresh before question taken spent =
+    IfSome before.folder.holds
+    (λ tree. (sights : Sights) → Sees tree before.known sights
+    → spent ≤ taken + length (filter (is_fresh sights) (question ∷ [])))
+
+-- own: what an answerer leaves as it is
+pub record Stays : Type 0 where
+  pub references : List ℕ
+  pub names : List (List ℕ)
 
 abbrev pub references_of : {F : Type 0} → Lookup F → ℕ → List ℕ
 references_of lookup steps =
     lookup.folder.ghost_name ∷ lookup.known.ghost_name ∷ steps ∷ lookup.trail.ghost_name ∷ []
 
-abbrev pub answers_of : List ℕ → ℕ → State → AnswererState
-answers_of references steps looks =
+abbrev pub stays_of : {F : Type 0} → Lookup F → ℕ → Stays
+stays_of lookup steps = record { references = references_of lookup steps; names = [] }
+
+abbrev pub answers_of : Freshness → Stays → ℕ → State → AnswererState
+answers_of is_fresh stays steps looks =
     record {
-      told = ToldBy looks.folder looks.known;
+      told = ToldBy is_fresh looks.folder looks.known;
       state = looks.trail;
       faults = looks.folder.look_faults;
       steps = steps;
-      keeps = record { references = references; holds = looks.folder.holds; writes = looks.folder.write_faults };
+      keeps = record {
+        references = stays.references;
+        names = stays.names;
+        holds = looks.folder.holds;
+        writes = looks.folder.write_faults;
+      };
       looks = looks;
     }

@@ -31,9 +31,10 @@ use Rattle.trace_spec.specs.Traces.{result_of, state_of}
 use Rattle.package_lookup.specs.Answered.{State, IsCovered}
 use Rattle.package_lookup.specs.Learning.{Learns}
 
--- the references to what is outside, what that holds where it is told, and how many writes failed
+-- the references to what is outside, and names; what that holds where it is told, and how many writes failed
 pub record Kept : Type 0 where
   pub references : List ℕ
+  pub names : List (List ℕ)
   pub holds : Option Tree
   pub writes : ℕ
 

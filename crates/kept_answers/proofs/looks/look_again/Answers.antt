@@ -22,7 +22,7 @@ returns-then-not-saw g c =
     (state (g.F.Folder.state c.look.new.folder) c.look.new.self c.look.new.trail) c.args.looks.now
     c.loop-look.rest.now c.in-Some.others.now c.in-Some.look.now c.path.result.now c.loop-look.invariant (search rules)
     c.path.ensures.path c.in_ok-seen.seen c.in_ok-seen.ensures.answered c.in_ok-seen.ensures.held
-    (λ e. let yes = c.saw.ensures.1 e in let no = c.if-not-saw.true in absurd (cc))
+    (λ e. let yes = c.saw.ensures.1 e in let no = c.if-not-saw.true in absurd (cc)) c.path.ensures.small
 
 pub loop-look-preserved-else-not-saw : goal.loop-look-preserved-else-not-saw
 loop-look-preserved-else-not-saw g c =

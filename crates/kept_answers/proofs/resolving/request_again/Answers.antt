@@ -1,4 +1,4 @@
-use Rattle.std.proofs.Common.{Ok, refl, ap, ◌∙◌}
+use Rattle.std.proofs.Common.{Some, Ok, refl, ap, ◌∙◌}
 use Rattle.tree_spec.specs.LookLimits.{begun}
 use Rattle.package_lookup.specs.Answered.{state}
 use Rattle.package_lookup.proofs.Questions.{given_as}
@@ -6,6 +6,7 @@ use Rattle.kept_answers.proofs.Certifying.{kept_looks, given_again, failed_again
 use Rattle.node_resolve.specs.Places.{module_of}
 use Rattle.node_resolve.specs.Responses.{responded}
 use Rattle.node_spec.specs.EsmResolve.{node}
+use Rattle.kept_answers.proofs.FreshSteps.{none_taken, other_again, other_taken}
 use Rattle.kept_answers.proofs.RequestLemmas.{is_kept}
 use Rattle.kept_answers.proofs.resolving.request_again.Goals as goal
 
@@ -73,3 +74,27 @@ returns-in-Ok-false-clause-answered g c =
     (state (g.F.Folder.state c.look_again.new.folder) c.look_again.new.known c.look_again.new.trail) c.as_slice.result.now c.in-Ok-false.field-0 c.in-Ok-false.field-0-test c.in-Ok-false.ensures)
     (responded (λ found. module_of found.value) c.request_anew.result)
     (state (g.F.Folder.state c.request_anew.new.folder) c.request_anew.new.known c.request_anew.new.trail) c.request_anew.ensures.answered
+
+pub returns-in-Err-clause-fresh : goal.returns-in-Err-clause-fresh
+returns-in-Err-clause-fresh g c =
+    none_taken (g.F.Folder.state c.args.folder.now) c.args.known.now (Some c.args.found.now.looks.value) c.args.steps.now
+    c.args.steps.now refl
+
+pub returns-in-Err-keep_again-clause-fresh : goal.returns-in-Err-keep_again-clause-fresh
+returns-in-Err-keep_again-clause-fresh g c =
+    none_taken (g.F.Folder.state c.args.folder.now) c.args.known.now (Some c.args.found.now.looks.value) c.args.steps.now
+    c.args.steps.now refl
+
+pub returns-in-Ok-clause-fresh : goal.returns-in-Ok-clause-fresh
+returns-in-Ok-clause-fresh g c =
+    none_taken (g.F.Folder.state c.args.folder.now) c.args.known.now (Some c.args.found.now.looks.value) c.args.steps.now
+    c.args.steps.now refl
+
+pub returns-in-Ok-false-clause-fresh : goal.returns-in-Ok-false-clause-fresh
+returns-in-Ok-false-clause-fresh g c =
+    other_taken (state (g.F.Folder.state c.args.folder.now) c.args.known.now c.args.trail.now)
+    (state (g.F.Folder.state c.look_again.new.folder) c.look_again.new.known c.look_again.new.trail) c.args.found.now.looks.value
+    c.as_slice.result.now c.args.steps.now c.request_anew.new.steps (c.as_slice.ensures ∙ c.deref.ensures)
+    (other_again (state (g.F.Folder.state c.args.folder.now) c.args.known.now c.args.trail.now)
+    (state (g.F.Folder.state c.look_again.new.folder) c.look_again.new.known c.look_again.new.trail) c.as_slice.result.now c.in-Ok-false.field-0 c.in-Ok-false.field-0-test c.in-Ok-false.ensures)
+    c.request_anew.ensures.cost

@@ -1,4 +1,4 @@
-use Rattle.std.proofs.Common.{Ok, ap}
+use Rattle.std.proofs.Common.{Some, Ok, refl, ap}
 use Rattle.tree_spec.specs.LookLimits.{begun}
 use Rattle.package_lookup.specs.Answered.{state}
 use Rattle.package_lookup.specs.Responses.{looked}
@@ -7,6 +7,7 @@ use Rattle.kept_answers.proofs.Certifying.{kept_looks, given_again, failed_again
 use Rattle.module_sources.specs.Shown.{source_in, source_of}
 use Rattle.trace_spec.specs.Questions.{module_source}
 use Rattle.kept_answers.specs.Entries.{source_seen}
+use Rattle.kept_answers.proofs.FreshSteps.{none_taken, other_again, other_taken}
 use Rattle.kept_answers.proofs.ModuleLemmas.{is_kept}
 use Rattle.kept_answers.proofs.sources.module_again.Goals as goal
 
@@ -65,3 +66,27 @@ returns-in-Ok-false-clause-answered g c =
     (state (g.F.Folder.state c.look_again.new.folder) c.look_again.new.known c.look_again.new.trail) c.looks.result.now c.in-Ok-false.field-0 c.in-Ok-false.field-0-test c.in-Ok-false.ensures)
     (looked source_in c.module_anew.result)
     (state (g.F.Folder.state c.module_anew.new.folder) c.module_anew.new.known c.module_anew.new.trail) c.module_anew.ensures.answered
+
+pub returns-in-Err-clause-fresh : goal.returns-in-Err-clause-fresh
+returns-in-Err-clause-fresh g c =
+    none_taken (g.F.Folder.state c.args.folder.now) c.args.known.now (Some c.args.found.now.looks) c.args.steps.now
+    c.args.steps.now refl
+
+pub returns-in-Err-keep_again-clause-fresh : goal.returns-in-Err-keep_again-clause-fresh
+returns-in-Err-keep_again-clause-fresh g c =
+    none_taken (g.F.Folder.state c.args.folder.now) c.args.known.now (Some c.args.found.now.looks) c.args.steps.now
+    c.args.steps.now refl
+
+pub returns-in-Ok-clause-fresh : goal.returns-in-Ok-clause-fresh
+returns-in-Ok-clause-fresh g c =
+    none_taken (g.F.Folder.state c.args.folder.now) c.args.known.now (Some c.args.found.now.looks) c.args.steps.now
+    c.args.steps.now refl
+
+pub returns-in-Ok-false-clause-fresh : goal.returns-in-Ok-false-clause-fresh
+returns-in-Ok-false-clause-fresh g c =
+    other_taken (state (g.F.Folder.state c.args.folder.now) c.args.known.now c.args.trail.now)
+    (state (g.F.Folder.state c.look_again.new.folder) c.look_again.new.known c.look_again.new.trail) c.args.found.now.looks
+    c.looks.result.now c.args.steps.now c.module_anew.new.steps c.looks.ensures
+    (other_again (state (g.F.Folder.state c.args.folder.now) c.args.known.now c.args.trail.now)
+    (state (g.F.Folder.state c.look_again.new.folder) c.look_again.new.known c.look_again.new.trail) c.looks.result.now c.in-Ok-false.field-0 c.in-Ok-false.field-0-test c.in-Ok-false.ensures)
+    c.module_anew.ensures.cost

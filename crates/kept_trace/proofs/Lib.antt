@@ -1,0 +1,5 @@
+pub mod FreshQuestions
+pub mod KeptSteps
+pub mod Readying
+pub mod Naming
+pub mod Walking
