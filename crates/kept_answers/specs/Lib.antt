@@ -2,3 +2,4 @@ pub mod KnownLooks
 pub mod Entries
 pub mod Tables
 pub mod Freshness
+pub mod Footprints

@@ -7,7 +7,8 @@ ghost use Rattle.node_resolve.specs.Places.{module_of};
 ghost use Rattle.node_resolve.specs.Responses.{node_fault, responded};
 ghost use Rattle.package_lookup.specs.Answered.{state, Answered};
 ghost use Rattle.package_lookup.specs.Responses.{looked};
-ghost use Rattle.kept_spec.specs.Certificates.{LookSeen};
+ghost use Rattle.kept_spec.specs.Certificates.{LookSeen, paths_of};
+ghost use Rattle.kept_answers.specs.Footprints.{HasFootprint};
 ghost use Rattle.kept_answers.specs.Freshness.{request_looks, TakesStepIfFresh};
 ghost use Rattle.kept_answers.specs.KnownLooks.{done, AreLooksAt, IsKept};
 ghost use Rattle.kept_answers.specs.Tables.{IsRequestOf, AreRequests};
@@ -44,6 +45,8 @@ pub fn request_answer<F: Folder, L: Ledger>(
     ensures answered { Answered (state (F.state folder.old) known.old (begun trail.old))
         (spec.node conditions.now parent.now specifier.now)
         (responded (λ found. module_of found.value) result) (state (F.state folder.new) known.new trail.new) }
+    ensures footprint { HasFootprint (F.state folder.old) known.old
+        (spec.node conditions.now parent.now specifier.now) result }
     ensures cost { steps.new ≤ steps.old + 1 }
     ensures fresh { TakesStepIfFresh (F.state folder.old) known.old
         (request_looks kept.now (record { parent = parent.now; specifier = specifier.now })) steps.old steps.new }
@@ -95,6 +98,8 @@ fn request_again<F: Folder, L: Ledger>(
     ensures answered { Answered (state (F.state folder.old) known.old (begun trail.old))
         (spec.node conditions.now parent.now specifier.now)
         (responded (λ found. module_of found.value) result) (state (F.state folder.new) known.new trail.new) }
+    ensures footprint { HasFootprint (F.state folder.old) known.old
+        (spec.node conditions.now parent.now specifier.now) result }
     ensures cost { steps.new ≤ steps.old + 1 }
     ensures fresh { TakesStepIfFresh (F.state folder.old) known.old (Some found.now.looks.value) steps.old steps.new }
     ensures names { next.new.names ≡ next.old.names }
@@ -156,6 +161,8 @@ fn request_anew<F: Folder, L: Ledger>(
     ensures answered { Answered (state (F.state folder.old) known.old (begun trail.old))
         (spec.node conditions.now parent.now specifier.now)
         (responded (λ found. module_of found.value) result) (state (F.state folder.new) known.new trail.new) }
+    ensures footprint { HasFootprint (F.state folder.old) known.old
+        (spec.node conditions.now parent.now specifier.now) result }
     ensures cost { steps.new ≤ steps.old + 1 }
     ensures names { next.new.names ≡ next.old.names }
     ensures right { IfSome (F.state folder.old).holds (λ tree. AreRequests next.old → AreRequests next.new) }
@@ -188,7 +195,7 @@ fn keep_request<F: Folder>(
     ensures names { next.new.names ≡ next.old.names }
     ensures right { ((looks : List LookSeen) → AreLooksAt known.new trail.old.question looks
         → IsKept (spec.node next.old.names request.parent request.specifier) (Ok (module_of found)) looks)
-        → AreRequests next.old → AreRequests next.new }
+        → found.footprint ≡ trail.old.question → AreRequests next.old → AreRequests next.new }
 {
     let looks = looks_of(alloc, known, folder, trail)?;
     let own = put_request(alloc, next, request, found, looks)?;
@@ -205,7 +212,7 @@ fn put_request(
     ensures found { IfOk result (λ own. own.value ≡ found) }
     ensures names { next.new.names ≡ next.old.names }
     ensures right { IsKept (spec.node next.old.names request.parent request.specifier) (Ok (module_of found)) looks
-        → AreRequests next.old → AreRequests next.new }
+        → found.footprint ≡ paths_of looks → AreRequests next.old → AreRequests next.new }
 {
     let found = Rc::new(alloc, found)?;
     let looks = Rc::new(alloc, looks)?;

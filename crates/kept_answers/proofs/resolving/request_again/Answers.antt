@@ -3,10 +3,12 @@ use Rattle.tree_spec.specs.LookLimits.{begun}
 use Rattle.package_lookup.specs.Answered.{state}
 use Rattle.package_lookup.proofs.Questions.{given_as}
 use Rattle.kept_answers.proofs.Certifying.{kept_looks, given_again, failed_again, behind_looks, lost, seen_again, seen_other, failing_of, to_failing, node_failing}
+use Rattle.node_resolve.specs.declared.fault.NodeFault.TheVariants.{Memory}
 use Rattle.node_resolve.specs.Places.{module_of}
 use Rattle.node_resolve.specs.Responses.{responded}
 use Rattle.node_spec.specs.EsmResolve.{node}
 use Rattle.kept_answers.proofs.FreshSteps.{none_taken, other_again, other_taken}
+use Rattle.kept_answers.proofs.SharedFootprints.{no_footprint, footprint_again}
 use Rattle.kept_answers.proofs.RequestLemmas.{is_kept}
 use Rattle.kept_answers.proofs.resolving.request_again.Goals as goal
 
@@ -98,3 +100,22 @@ returns-in-Ok-false-clause-fresh g c =
     (other_again (state (g.F.Folder.state c.args.folder.now) c.args.known.now c.args.trail.now)
     (state (g.F.Folder.state c.look_again.new.folder) c.look_again.new.known c.look_again.new.trail) c.as_slice.result.now c.in-Ok-false.field-0 c.in-Ok-false.field-0-test c.in-Ok-false.ensures)
     c.request_anew.ensures.cost
+
+pub returns-in-Ok-clause-footprint : goal.returns-in-Ok-clause-footprint
+returns-in-Ok-clause-footprint g c =
+    footprint_again (state (g.F.Folder.state c.args.folder.now) c.args.known.now c.args.trail.now)
+    (state (g.F.Folder.state c.look_again.new.folder) c.look_again.new.known c.look_again.new.trail)
+    c.args.conditions.now c.args.parent.now c.args.specifier.now c.args.request c.args.found.now c.as_slice.result.now
+    c.in-Ok.own (c.as_slice.ensures ∙ c.deref.ensures) c.requires.request c.in-Ok.ensures.found c.requires.right
+    (seen_again (state (g.F.Folder.state c.args.folder.now) c.args.known.now c.args.trail.now)
+    (state (g.F.Folder.state c.look_again.new.folder) c.look_again.new.known c.look_again.new.trail) c.as_slice.result.now c.in-Ok-true.field-0 c.in-Ok-true.field-0-test c.in-Ok-true.ensures)
+
+pub returns-in-Err-clause-footprint : goal.returns-in-Err-clause-footprint
+returns-in-Err-clause-footprint g c =
+    no_footprint (g.F.Folder.state c.args.folder.now) c.args.known.now
+    (node c.args.conditions.now c.args.parent.now c.args.specifier.now) c.fault_of.result
+
+pub returns-in-Err-keep_again-clause-footprint : goal.returns-in-Err-keep_again-clause-footprint
+returns-in-Err-keep_again-clause-footprint g c =
+    no_footprint (g.F.Folder.state c.args.folder.now) c.args.known.now
+    (node c.args.conditions.now c.args.parent.now c.args.specifier.now) Memory

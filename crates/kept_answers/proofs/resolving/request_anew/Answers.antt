@@ -13,6 +13,7 @@ use Rattle.node_resolve.specs.Places.{module_of}
 use Rattle.node_spec.specs.EsmResolve.{node}
 use Rattle.kept_answers.specs.Tables.{AreRequests}
 use Rattle.kept_answers.proofs.RequestLemmas.{kept_as}
+use Rattle.kept_answers.proofs.SharedFootprints.{no_footprint, footprint_anew}
 use Rattle.kept_answers.proofs.resolving.request_anew.Goals as goal
 
 pub returns-in-Err-keep_request-clause-answered : goal.returns-in-Err-keep_request-clause-answered
@@ -38,7 +39,8 @@ returns-in-Err-keep_request-clause-right g c =
     (g.F.Folder.state c.args.folder.now).holds
     (λ tree each right. c.keep_request.ensures.right
     (λ looks are. kept_as c.args.next.now.names c.args.conditions.now c.args.parent.now c.args.specifier.now
-    c.args.request (Ok (module_of c.in-Ok.found)) looks c.requires.next c.requires.request (each looks are)) right)
+    c.args.request (Ok (module_of c.in-Ok.found)) looks c.requires.next c.requires.request (each looks are))
+    c.in-Ok.ensures.footprint right)
     (kept_by c.some_sights.ensures (state (g.F.Folder.state c.args.folder.now) c.args.known.now c.args.trail.now)
     (state (g.F.Folder.state c.resolve.new.folder) c.resolve.new.known c.resolve.new.trail)
     (state (g.F.Folder.state c.keep_request.new.folder) c.keep_request.new.known c.keep_request.new.trail)
@@ -64,9 +66,27 @@ returns-in-Ok-keep_request-clause-right g c =
     (g.F.Folder.state c.args.folder.now).holds
     (λ tree each right. c.keep_request.ensures.right
     (λ looks are. kept_as c.args.next.now.names c.args.conditions.now c.args.parent.now c.args.specifier.now
-    c.args.request (Ok (module_of c.in-Ok.found)) looks c.requires.next c.requires.request (each looks are)) right)
+    c.args.request (Ok (module_of c.in-Ok.found)) looks c.requires.next c.requires.request (each looks are))
+    c.in-Ok.ensures.footprint right)
     (kept_by c.some_sights.ensures (state (g.F.Folder.state c.args.folder.now) c.args.known.now c.args.trail.now)
     (state (g.F.Folder.state c.resolve.new.folder) c.resolve.new.known c.resolve.new.trail)
     (state (g.F.Folder.state c.keep_request.new.folder) c.keep_request.new.known c.keep_request.new.trail)
     (node c.args.conditions.now c.args.parent.now c.args.specifier.now) (Ok (module_of c.in-Ok.found))
     (looked done c.keep_request.result) c.in-Ok.ensures.answered c.keep_request.ensures.answered)
+
+pub returns-in-Ok-keep_request-clause-footprint : goal.returns-in-Ok-keep_request-clause-footprint
+returns-in-Ok-keep_request-clause-footprint g c =
+    footprint_anew (state (g.F.Folder.state c.args.folder.now) c.args.known.now c.args.trail.now)
+    (state (g.F.Folder.state c.resolve.new.folder) c.resolve.new.known c.resolve.new.trail)
+    (node c.args.conditions.now c.args.parent.now c.args.specifier.now) (Ok (module_of c.in-Ok.found)) c.in-Ok.found
+    c.in-Ok-keep_request.own c.in-Ok-keep_request.ensures.found c.in-Ok.ensures.footprint c.in-Ok.ensures.answered
+
+pub returns-in-Err-clause-footprint : goal.returns-in-Err-clause-footprint
+returns-in-Err-clause-footprint g c =
+    no_footprint (g.F.Folder.state c.args.folder.now) c.args.known.now
+    (node c.args.conditions.now c.args.parent.now c.args.specifier.now) c.in-Err.fault
+
+pub returns-in-Err-keep_request-clause-footprint : goal.returns-in-Err-keep_request-clause-footprint
+returns-in-Err-keep_request-clause-footprint g c =
+    no_footprint (g.F.Folder.state c.args.folder.now) c.args.known.now
+    (node c.args.conditions.now c.args.parent.now c.args.specifier.now) c.fault_of.result

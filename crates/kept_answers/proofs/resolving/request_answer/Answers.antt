@@ -1,4 +1,6 @@
 use Rattle.node_spec.specs.EsmResolve.{node}
+use Rattle.node_resolve.specs.declared.fault.NodeFault.TheVariants.{Memory}
+use Rattle.kept_answers.proofs.SharedFootprints.{no_footprint}
 use Rattle.kept_answers.proofs.Certifying.{no_memory_begun}
 use Rattle.kept_answers.proofs.resolving.request_answer.Goals as goal
 
@@ -6,3 +8,8 @@ pub returns-in-Err-clause-answered : goal.returns-in-Err-clause-answered
 returns-in-Err-clause-answered g c =
     no_memory_begun (g.F.Folder.state c.args.folder.now) c.args.known.now c.args.trail.now c.begin.new.self
     (node c.args.conditions.now c.args.parent.now c.args.specifier.now) c.begin.ensures
+
+pub returns-in-Err-clause-footprint : goal.returns-in-Err-clause-footprint
+returns-in-Err-clause-footprint g c =
+    no_footprint (g.F.Folder.state c.args.folder.now) c.args.known.now
+    (node c.args.conditions.now c.args.parent.now c.args.specifier.now) Memory
