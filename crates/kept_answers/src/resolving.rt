@@ -1,11 +1,11 @@
 //! The module to which a request leads, as it is kept or anew.
 ghost use Rattle.std.specs.Prelude.{◌≡◌, ◌≤◌, ◌+◌, List, Some, Ok, IfOk, IfSome};
 ghost use Rattle.tree_spec.specs.LookAskings.{look_at_each};
-ghost use Rattle.tree_spec.specs.LookLimits.{begun};
 ghost use Rattle.node_spec.specs.EsmResolve as spec;
 ghost use Rattle.node_resolve.specs.Places.{module_of};
 ghost use Rattle.node_resolve.specs.Responses.{node_fault, responded};
-ghost use Rattle.package_lookup.specs.Answered.{state, Answered};
+ghost use Rattle.package_lookup.specs.Answered.{Answered};
+ghost use Rattle.package_lookup.specs.Lookups.{begun_of, state_of, IsSameLookup};
 ghost use Rattle.package_lookup.specs.Responses.{looked};
 ghost use Rattle.kept_spec.specs.Certificates.{LookSeen, paths_of};
 ghost use Rattle.kept_answers.specs.Footprints.{HasFootprint};
@@ -18,7 +18,7 @@ use crate::looks::{LookedAt, look_again, looks_of};
 use crate::requests::{KeptRequest, KeptRequests};
 use condition_match::Conditions;
 use node_resolve::{Cause, Found, NodeFault, resolve};
-use package_lookup::{Known, LookupFault, Trail, some_sights};
+use package_lookup::{Lookup, LookupFault, some_sights};
 use shared_types::{Listed, Memory, Steps, Text};
 use std::alloc::Global;
 use std::rc::Rc;
@@ -29,9 +29,7 @@ use tree_model::{Folder, Path};
 /// what decided it stands there still. It is put into the next table. Both tables are those of these conditions.
 pub fn request_answer<F: Folder, L: Ledger>(
     alloc: Global,
-    known: &mut Known,
-    folder: &mut F,
-    trail: &mut Trail,
+    lookup: &mut Lookup<'_, F>,
     parent: &Path,
     specifier: &str,
     conditions: &Conditions,
@@ -41,29 +39,30 @@ pub fn request_answer<F: Folder, L: Ledger>(
 ) -> Result<Rc<Found>, NodeFault>
     requires kept { kept.now.names ≡ conditions.now }
     requires next { next.old.names ≡ conditions.now }
-    requires right { IfSome (F.state folder.old).holds (λ tree. AreRequests kept.now) }
-    ensures answered { Answered (state (F.state folder.old) known.old (begun trail.old))
+    requires right { IfSome (F.state lookup.old.folder.now).holds (λ tree. AreRequests kept.now) }
+    ensures answered { Answered (begun_of F.state lookup.old)
         (spec.node conditions.now parent.now specifier.now)
-        (responded (λ found. module_of found.value) result) (state (F.state folder.new) known.new trail.new) }
-    ensures footprint { HasFootprint (F.state folder.old) known.old
+        (responded (λ found. module_of found.value) result) (state_of F.state lookup.new) }
+    ensures footprint { HasFootprint (F.state lookup.old.folder.now) lookup.old.known.now
         (spec.node conditions.now parent.now specifier.now) result }
     ensures cost { steps.new ≤ steps.old + 1 }
-    ensures fresh { TakesStepIfFresh (F.state folder.old) known.old
+    ensures fresh { TakesStepIfFresh (F.state lookup.old.folder.now) lookup.old.known.now
         (request_looks kept.now (record { parent = parent.now; specifier = specifier.now })) steps.old steps.new }
     ensures names { next.new.names ≡ next.old.names }
-    ensures right { IfSome (F.state folder.old).holds (λ tree. AreRequests next.old → AreRequests next.new) }
+    ensures right { IfSome (F.state lookup.old.folder.now).holds (λ tree. AreRequests next.old → AreRequests next.new) }
+    ensures same { IsSameLookup lookup.old lookup.new }
 {
     match key_of(alloc, parent, specifier) {
         Err(_) => {
-            trail.begin();
+            lookup.trail.begin();
             Err(NodeFault::Memory)
         }
         Ok(request) => match kept.get(&request) {
             None => request_anew(
-                alloc, known, folder, trail, parent, specifier, conditions, steps, next, request,
+                alloc, lookup, parent, specifier, conditions, steps, next, request,
             ),
             Some(found) => request_again(
-                alloc, known, folder, trail, parent, specifier, conditions, steps, next, request,
+                alloc, lookup, parent, specifier, conditions, steps, next, request,
                 found,
             ),
         },
@@ -81,9 +80,7 @@ fn key_of(alloc: Global, parent: &Path, specifier: &str) -> Result<RequestKey, M
 // The kept module, where the looks that decided it see the same; else the module anew.
 fn request_again<F: Folder, L: Ledger>(
     alloc: Global,
-    known: &mut Known,
-    folder: &mut F,
-    trail: &mut Trail,
+    lookup: &mut Lookup<'_, F>,
     parent: &Path,
     specifier: &str,
     conditions: &Conditions,
@@ -94,21 +91,22 @@ fn request_again<F: Folder, L: Ledger>(
 ) -> Result<Rc<Found>, NodeFault>
     requires request { request ≡ record { parent = parent.now; specifier = specifier.now } }
     requires next { next.old.names ≡ conditions.now }
-    requires right { IfSome (F.state folder.old).holds (λ tree. IsRequestOf conditions.now request found.now) }
-    ensures answered { Answered (state (F.state folder.old) known.old (begun trail.old))
+    requires right { IfSome (F.state lookup.old.folder.now).holds (λ tree. IsRequestOf conditions.now request found.now) }
+    ensures answered { Answered (begun_of F.state lookup.old)
         (spec.node conditions.now parent.now specifier.now)
-        (responded (λ found. module_of found.value) result) (state (F.state folder.new) known.new trail.new) }
-    ensures footprint { HasFootprint (F.state folder.old) known.old
+        (responded (λ found. module_of found.value) result) (state_of F.state lookup.new) }
+    ensures footprint { HasFootprint (F.state lookup.old.folder.now) lookup.old.known.now
         (spec.node conditions.now parent.now specifier.now) result }
     ensures cost { steps.new ≤ steps.old + 1 }
-    ensures fresh { TakesStepIfFresh (F.state folder.old) known.old (Some found.now.looks.value) steps.old steps.new }
+    ensures fresh { TakesStepIfFresh (F.state lookup.old.folder.now) lookup.old.known.now (Some found.now.looks.value) steps.old steps.new }
     ensures names { next.new.names ≡ next.old.names }
-    ensures right { IfSome (F.state folder.old).holds (λ tree. AreRequests next.old → AreRequests next.new) }
+    ensures right { IfSome (F.state lookup.old.folder.now).holds (λ tree. AreRequests next.old → AreRequests next.new) }
+    ensures same { IsSameLookup lookup.old lookup.new }
 {
-    match look_again(alloc, known, folder, trail, found.looks.as_slice()) {
+    match look_again(alloc, lookup, found.looks.as_slice()) {
         Err(fault) => Err(fault_of(fault)),
         Ok(false) => request_anew(
-            alloc, known, folder, trail, parent, specifier, conditions, steps, next, request,
+            alloc, lookup, parent, specifier, conditions, steps, next, request,
         ),
         Ok(true) => match keep_again(next, request, found) {
             Err(_) => Err(NodeFault::Memory),
@@ -146,9 +144,7 @@ fn keep_again(
 // The module, by new looks, which are kept with it.
 fn request_anew<F: Folder, L: Ledger>(
     alloc: Global,
-    known: &mut Known,
-    folder: &mut F,
-    trail: &mut Trail,
+    lookup: &mut Lookup<'_, F>,
     parent: &Path,
     specifier: &str,
     conditions: &Conditions,
@@ -158,21 +154,22 @@ fn request_anew<F: Folder, L: Ledger>(
 ) -> Result<Rc<Found>, NodeFault>
     requires request { request ≡ record { parent = parent.now; specifier = specifier.now } }
     requires next { next.old.names ≡ conditions.now }
-    ensures answered { Answered (state (F.state folder.old) known.old (begun trail.old))
+    ensures answered { Answered (begun_of F.state lookup.old)
         (spec.node conditions.now parent.now specifier.now)
-        (responded (λ found. module_of found.value) result) (state (F.state folder.new) known.new trail.new) }
-    ensures footprint { HasFootprint (F.state folder.old) known.old
+        (responded (λ found. module_of found.value) result) (state_of F.state lookup.new) }
+    ensures footprint { HasFootprint (F.state lookup.old.folder.now) lookup.old.known.now
         (spec.node conditions.now parent.now specifier.now) result }
     ensures cost { steps.new ≤ steps.old + 1 }
     ensures names { next.new.names ≡ next.old.names }
-    ensures right { IfSome (F.state folder.old).holds (λ tree. AreRequests next.old → AreRequests next.new) }
+    ensures right { IfSome (F.state lookup.old.folder.now).holds (λ tree. AreRequests next.old → AreRequests next.new) }
+    ensures same { IsSameLookup lookup.old lookup.new }
 {
     some_sights();
     match resolve(
-        alloc, known, folder, trail, parent, specifier, conditions, steps,
+        alloc, lookup, parent, specifier, conditions, steps,
     ) {
         Err(fault) => Err(fault),
-        Ok(found) => match keep_request(alloc, known, folder, trail, next, request, found) {
+        Ok(found) => match keep_request(alloc, lookup, next, request, found) {
             Err(fault) => Err(fault_of(fault)),
             Ok(own) => Ok(own),
         },
@@ -182,22 +179,21 @@ fn request_anew<F: Folder, L: Ledger>(
 // Keeps a module with the looks of the present question.
 fn keep_request<F: Folder>(
     alloc: Global,
-    known: &mut Known,
-    folder: &mut F,
-    trail: &mut Trail,
+    lookup: &mut Lookup<'_, F>,
     next: &mut KeptRequests,
     request: RequestKey,
     found: Found,
 ) -> Result<Rc<Found>, LookupFault>
-    ensures answered { Answered (state (F.state folder.old) known.old trail.old) (look_at_each trail.old.question)
-        (looked done result) (state (F.state folder.new) known.new trail.new) }
+    ensures answered { Answered (state_of F.state lookup.old) (look_at_each lookup.old.trail.now.question)
+        (looked done result) (state_of F.state lookup.new) }
     ensures found { IfOk result (λ own. own.value ≡ found) }
     ensures names { next.new.names ≡ next.old.names }
-    ensures right { ((looks : List LookSeen) → AreLooksAt known.new trail.old.question looks
+    ensures right { ((looks : List LookSeen) → AreLooksAt lookup.new.known.now lookup.old.trail.now.question looks
         → IsKept (spec.node next.old.names request.parent request.specifier) (Ok (module_of found)) looks)
-        → found.footprint ≡ trail.old.question → AreRequests next.old → AreRequests next.new }
+        → found.footprint ≡ lookup.old.trail.now.question → AreRequests next.old → AreRequests next.new }
+    ensures same { IsSameLookup lookup.old lookup.new }
 {
-    let looks = looks_of(alloc, known, folder, trail)?;
+    let looks = looks_of(alloc, lookup)?;
     let own = put_request(alloc, next, request, found, looks)?;
     Ok(own)
 }

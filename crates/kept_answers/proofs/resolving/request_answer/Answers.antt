@@ -6,10 +6,10 @@ use Rattle.kept_answers.proofs.resolving.request_answer.Goals as goal
 
 pub returns-in-Err-clause-answered : goal.returns-in-Err-clause-answered
 returns-in-Err-clause-answered g c =
-    no_memory_begun (g.F.Folder.state c.args.folder.now) c.args.known.now c.args.trail.now c.begin.new.self
+    no_memory_begun (g.F.Folder.state c.args.lookup.now.folder.now) c.args.lookup.now.known.now c.args.lookup.now.trail.now c.begin.new.self
     (node c.args.conditions.now c.args.parent.now c.args.specifier.now) c.begin.ensures
 
 pub returns-in-Err-clause-footprint : goal.returns-in-Err-clause-footprint
 returns-in-Err-clause-footprint g c =
-    no_footprint (g.F.Folder.state c.args.folder.now) c.args.known.now
+    no_footprint (g.F.Folder.state c.args.lookup.now.folder.now) c.args.lookup.now.known.now
     (node c.args.conditions.now c.args.parent.now c.args.specifier.now) Memory
