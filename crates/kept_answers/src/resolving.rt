@@ -62,8 +62,7 @@ pub fn request_answer<F: Folder, L: Ledger>(
                 alloc, lookup, parent, specifier, conditions, steps, next, request,
             ),
             Some(found) => request_again(
-                alloc, lookup, parent, specifier, conditions, steps, next, request,
-                found,
+                alloc, lookup, parent, specifier, conditions, steps, next, request, found,
             ),
         },
     }
@@ -165,9 +164,7 @@ fn request_anew<F: Folder, L: Ledger>(
     ensures same { IsSameLookup lookup.old lookup.new }
 {
     some_sights();
-    match resolve(
-        alloc, lookup, parent, specifier, conditions, steps,
-    ) {
+    match resolve(alloc, lookup, parent, specifier, conditions, steps) {
         Err(fault) => Err(fault),
         Ok(found) => match keep_request(alloc, lookup, next, request, found) {
             Err(fault) => Err(fault_of(fault)),

@@ -3,6 +3,7 @@
 --     always_ready         an answerer that needs nothing to be ready
 --     kind_of, found_of    why a module has no source, and that one that it has is right
 --     step_for_each        a step for each question, where all are fresh
+--     nothing_to_keep, none_to_keep      where nothing needs to be kept
 --     met_by               a question
 --     referring            what stays of a look-up that refers to what it referred to
 --     traces_by            the walk
@@ -13,8 +14,8 @@
 --     takes_moved          the steps beside another name for what they end with
 --     named_limit, limit_ends, look_ends      a limit that ends a walk
 use Rattle.std.proofs.Common.{◌≡◌, ◌≤◌, ◌+◌, ℕ, List, length, Option, Some, None, Result, Ok, Err, IfSome, refl, sym, ap, ◌∙◌, subst, arith}
-use Rattle.std.specs.Prelude.{◌≢◌, [], ◌∷◌, filter, Contains, IfErr, IfOk, MatchResult, OnOk, ⊤}
-use Rattle.std.proofs.lemmas.List.Elements.{Contains-append_left}
+use Rattle.std.specs.Prelude.{◌≢◌, [], ◌∷◌, filter, All, Contains, IfErr, IfOk, MatchResult, OnOk, ⊤}
+use Rattle.std.proofs.lemmas.List.Elements.{Contains-append_left, All-cons, All-nil}
 use Rattle.asking_spec.specs.Askings.{answered, ask, questions}
 use Rattle.asking_spec.proofs.EvaluationLemmas.{ends_outcome}
 use Rattle.asking_spec.specs.Evaluation.{Ended, ends, stopped, then_ended, evaluated, AreAlways}
@@ -41,7 +42,7 @@ use Rattle.package_lookup.specs.Answered as lookup
 use Rattle.package_lookup.specs.Responses.{Response, given, fails, passes, not_read, no_memory, never, by_limit}
 use Rattle.package_lookup.proofs.Questions.{sees_still, limited_always}
 use Rattle.package_lookup.proofs.Learnings.{learns_as, learns_by, learns_at, learns_nothing}
-use Rattle.trace_walk.specs.Meeting.{Told, Kept, IsTold, looks_of, IsAskedBy, asked_then, fresh_to_end, Comes, Met, fine}
+use Rattle.trace_walk.specs.Meeting.{Told, Kept, IsTold, looks_of, IsAskedBy, asked_then, asked_to_end, fresh_to_end, Comes, Met, fine}
 use Rattle.module_sources.specs.declared.source.Source.{Source}
 use Rattle.module_sources.specs.declared.source.NoSource.{NoSource}
 use Rattle.module_sources.specs.Shown.{FindsSource, IsSource}
@@ -50,8 +51,8 @@ use Rattle.trace_walk.specs.Shown.{traced_of}
 use Rattle.trace_walk.specs.declared.tables.Tables.{Tables}
 use Rattle.package_lookup.specs.Lookups.{IsSameLookup}
 use Rattle.package_lookup.specs.declared.lookup.Lookup.{Lookup}
-use Rattle.request_trace.specs.Answering.{result_by, Freshness, Stays, all_fresh, told_by, ToldBy, TakesStep, answers_of}
-use Rattle.request_trace.specs.Answering.{stays_of}
+use Rattle.request_trace.specs.Answering.{result_by, Freshness, Keeping, Stays, all_fresh, all_kept, told_by, ToldBy, TakesStep, answers_of}
+use Rattle.request_trace.specs.Answering.{stays_of, KeepsOn, KeepsAnswer}
 use Rattle.request_trace.specs.Tracing.{known_of, IsOfFootprint, TakesSteps, Traces}
 use Rattle.request_trace.proofs.FootprintPaths.{footprint_contains}
 
@@ -121,7 +122,16 @@ pub step_for_each : (before : State) (question : Question) (taken spent : ℕ) �
 step_for_each before question taken spent few =
     if_all before.folder.holds (λ tree sights sees. omega (arith, few))
 
-module _ (is_fresh : Freshness) (stays : Stays) (taken spent : ℕ) (before after : State) (question : Question) (response : Response (Answer question))
+-- whatever is kept, where nothing needs to be
+pub nothing_to_keep : (before : State) → KeepsOn all_kept all_kept before
+nothing_to_keep before = if_all before.folder.holds (λ tree sights sees question kept. tt)
+
+pub none_to_keep : {X : Type 0} (before : State) (question : Question) (result : Result X TraceFault)
+    → KeepsAnswer all_kept before question result
+none_to_keep before question (Ok value) = if_all before.folder.holds (λ tree sights sees. tt)
+none_to_keep before question (Err fault) = if_all before.folder.holds (λ tree sights sees. tt)
+
+module _ (is_fresh : Freshness) (keeping : Keeping) (stays : Stays) (taken spent : ℕ) (before after : State) (question : Question) (response : Response (Answer question))
     (result : Result (Answer question) TraceFault) where
   told_here : Answered (afresh before) (put question) response after → (by : Tree)
       → before.folder.holds ≡ Some by → Tells by (afresh before) (put question) response after
@@ -150,7 +160,7 @@ module _ (is_fresh : Freshness) (stays : Stays) (taken spent : ℕ) (before afte
 
   -- a look of the question is one at which the walk's question looks
   asked_by : (path : List ℕ) → IsLookOf (afresh before) (put question) path
-      → IsAskedBy (answers_of is_fresh stays taken before) (fine (ask question answered)) path
+      → IsAskedBy (answers_of is_fresh keeping stays taken before) (fine (ask question answered)) path
   asked_by path is told by are =
       let each : (sights : Sights) → Sees by.tree before.known sights → Contains (looks sights (put question)) path =
       subst (λ holds. IfSome holds
@@ -174,11 +184,43 @@ module _ (is_fresh : Freshness) (stays : Stays) (taken spent : ℕ) (before afte
       (subst (λ asked. spent ≤ taken + length (filter (is_fresh by.sights) asked))
       (sym (one_asked (answers by.sights before.trail question) question)) (each by.sights by.sees))
 
-  pub met_by : (others : Stays) → others ≡ stays → TakesStep is_fresh before question taken spent
-      → result ≡ result_by response → Answered (afresh before) (put question) response after
-      → Met (answers_of is_fresh stays taken before) (fine (ask question answered)) result
-      (answers_of is_fresh others spent after)
-  met_by others same takes is a = record {
+  stands_so : (told : Answering) (by : ToldBy is_fresh before.folder before.known told) → told.stands ≡ by.sights
+  stands_so told by = ap (λ (t : Answering). t.stands) by.are
+
+  kept_still : (later_keeping : Keeping) → KeepsOn keeping later_keeping before → (told : Answering)
+      → ToldBy is_fresh before.folder before.known told → (other : Question) → keeping told.stands other
+      → later_keeping told.stands other
+  kept_still later_keeping on told by other kept =
+      let each : (sights : Sights) → Sees by.tree before.known sights → (q : Question) → keeping sights q
+      → later_keeping sights q =
+      subst (λ holds. IfSome holds
+      (λ tree. (sights : Sights) → Sees tree before.known sights → (q : Question) → keeping sights q
+      → later_keeping sights q)) by.holds on in
+      subst (λ s. later_keeping s other) (sym (stands_so told by))
+      (each by.sights by.sees other (subst (λ s. keeping s other) (stands_so told by) kept))
+
+  kept_here : (later_keeping : Keeping) → KeepsAnswer later_keeping before question result → (told : Answering)
+      → ToldBy is_fresh before.folder before.known told → (value : Answer question) → result ≡ Ok value
+      → All (later_keeping told.stands) (asked_to_end told.answers before.trail (fine (ask question answered)))
+  kept_here later_keeping here told by value is =
+      let each : (sights : Sights) → Sees by.tree before.known sights
+      → IfOk result (λ answer. later_keeping sights question) =
+      subst (λ holds. IfSome holds
+      (λ tree. (sights : Sights) → Sees tree before.known sights
+      → IfOk result (λ answer. later_keeping sights question))) by.holds here in
+      let own : later_keeping by.sights question =
+      subst (λ r. IfOk r (λ answer. later_keeping by.sights question)) is (each by.sights by.sees) in
+      subst (All (later_keeping told.stands)) (sym (one_asked (told.answers before.trail question) question))
+      (All-cons (later_keeping told.stands) question []
+      (subst (λ s. later_keeping s question) (sym (stands_so told by)) own) (All-nil (later_keeping told.stands)))
+
+  pub met_by : (others : Stays) (later_keeping : Keeping) → others ≡ stays
+      → TakesStep is_fresh before question taken spent → KeepsOn keeping later_keeping before
+      → KeepsAnswer later_keeping before question result → result ≡ result_by response
+      → Answered (afresh before) (put question) response after
+      → Met (answers_of is_fresh keeping stays taken before) (fine (ask question answered)) result
+      (answers_of is_fresh later_keeping others spent after)
+  met_by others later_keeping same takes on here is a = record {
     comes = comes_told is a;
     told = told_still a;
     keeps = (λ i. record {
@@ -193,49 +235,51 @@ module _ (is_fresh : Freshness) (stays : Stays) (taken spent : ℕ) (before afte
     steps = steps_told takes;
     learns = learns_as before after (response ≡ fails no_memory) (result ≡ Err Memory)
         (IsLookOf (afresh before) (put question))
-        (IsAskedBy (answers_of is_fresh stays taken before) (fine (ask question answered))) (λ e. is ∙ ap result_by e) asked_by
+        (IsAskedBy (answers_of is_fresh keeping stays taken before) (fine (ask question answered))) (λ e. is ∙ ap result_by e) asked_by
         (learns_at (afresh before) after before.trail after.trail (response ≡ fails no_memory)
         (IsLookOf (afresh before) (put question)) (learns_by (afresh before) after (put question) response a));
     covered = λ finished covers. a.covered (λ e. finished (is ∙ ap result_by e)) covers;
+    still_kept = kept_still later_keeping on;
+    asked_kept = kept_here later_keeping here;
   }
 
 -- ---- the walk
 
-is_traced : (is_fresh later_fresh : Freshness) (told : Option Tree) (stays others : Stays) (taken spent : ℕ) (config : Config) (before after : State)
+is_traced : (is_fresh later_fresh : Freshness) (keeping later_keeping : Keeping) (told : Option Tree) (stays others : Stays) (taken spent : ℕ) (config : Config) (before after : State)
     (result : Result Gathered TraceFault) → before.folder.holds ≡ told → before.trail ≡ no_trail
-    → Met (answers_of is_fresh stays taken before) (trace config) result (answers_of later_fresh others spent after)
+    → Met (answers_of is_fresh keeping stays taken before) (trace config) result (answers_of later_fresh later_keeping others spent after)
     → IfSome told
     (λ tree. (sights : Sights) → Sees tree before.known sights → IsTold result → traced sights config ≡ result)
-is_traced is_fresh later_fresh None stays others taken spent config before after result holds fresh met = tt
-is_traced is_fresh later_fresh (Some tree) stays others taken spent config before after result holds fresh met = λ sights sees is_told.
+is_traced is_fresh later_fresh keeping later_keeping None stays others taken spent config before after result holds fresh met = tt
+is_traced is_fresh later_fresh keeping later_keeping (Some tree) stays others taken spent config before after result holds fresh met = λ sights sees is_told.
     ap (λ trail. result_of (evaluated (answers sights) trail (trace config))) (sym fresh)
     ∙ (met.comes (told_by is_fresh sights) (record { tree = tree; sights = sights; holds = holds; sees = sees; are = refl })
     is_told).is
 
 -- what the walk's questions look at is of the footprint
-of_footprint : (is_fresh : Freshness) (told : Option Tree) (stays : Stays) (taken : ℕ) (config : Config) (before : State) (path : List ℕ)
-    → before.folder.holds ≡ told → IsAskedBy (answers_of is_fresh stays taken before) (trace config) path
+of_footprint : (is_fresh : Freshness) (keeping : Keeping) (told : Option Tree) (stays : Stays) (taken : ℕ) (config : Config) (before : State) (path : List ℕ)
+    → before.folder.holds ≡ told → IsAskedBy (answers_of is_fresh keeping stays taken before) (trace config) path
     → IfSome told
     (λ tree. (sights : Sights) → Sees tree before.known sights → Contains (footprint sights (generation config)) path)
-of_footprint is_fresh None stays taken config before path holds is = tt
-of_footprint is_fresh (Some tree) stays taken config before path holds is = λ sights sees.
+of_footprint is_fresh keeping None stays taken config before path holds is = tt
+of_footprint is_fresh keeping (Some tree) stays taken config before path holds is = λ sights sees.
     footprint_contains sights (generation config) path
     (subst (λ paths. Contains paths path) (sym (looks_are_of_questions sights config).looks)
     (is (told_by is_fresh sights) (record { tree = tree; sights = sights; holds = holds; sees = sees; are = refl })
     (answers_always sights)))
 
-pub traces_by : (is_fresh later_fresh : Freshness) (stays others : Stays) (taken spent : ℕ) (config : Config) (before after : State)
+pub traces_by : (is_fresh later_fresh : Freshness) (keeping later_keeping : Keeping) (stays others : Stays) (taken spent : ℕ) (config : Config) (before after : State)
     (result : Result Gathered TraceFault) → before.trail ≡ no_trail
-    → Met (answers_of is_fresh stays taken before) (trace config) result (answers_of later_fresh others spent after)
+    → Met (answers_of is_fresh keeping stays taken before) (trace config) result (answers_of later_fresh later_keeping others spent after)
     → IfErr result (IsOfWalk config)
     → Traces config before.folder before.known result after.folder after.known
-traces_by is_fresh later_fresh stays others taken spent config before after result fresh met kind = record {
-  is = is_traced is_fresh later_fresh before.folder.holds stays others taken spent config before after result refl fresh met;
+traces_by is_fresh later_fresh keeping later_keeping stays others taken spent config before after result fresh met kind = record {
+  is = is_traced is_fresh later_fresh keeping later_keeping before.folder.holds stays others taken spent config before after result refl fresh met;
   learns = learns_at before after no_trail no_trail (result ≡ Err Memory)
       (IsOfFootprint config before.folder before.known)
       (learns_as before after (result ≡ Err Memory) (result ≡ Err Memory)
-      (IsAskedBy (answers_of is_fresh stays taken before) (trace config)) (IsOfFootprint config before.folder before.known)
-      (λ e. e) (λ path. of_footprint is_fresh before.folder.holds stays taken config before path refl) met.learns);
+      (IsAskedBy (answers_of is_fresh keeping stays taken before) (trace config)) (IsOfFootprint config before.folder before.known)
+      (λ e. e) (λ path. of_footprint is_fresh keeping before.folder.holds stays taken config before path refl) met.learns);
   looks = record {
     tree = ap (λ (keeps : Kept). keeps.holds) met.keeps;
     writes = ap (λ (keeps : Kept). keeps.writes) met.keeps;

@@ -25,7 +25,7 @@ use Rattle.tree_spec.specs.LookLimits.{no_trail}
 use Rattle.tree_spec.specs.Trees.{Tree}
 use Rattle.tree_spec.specs.declared.LimitName.{LimitName}
 use Rattle.tree_spec.proofs.ToldStates.{if_all, if_some}
-use Rattle.request_trace.specs.Answering.{Freshness, Stays, all_fresh, told_by, answers_of}
+use Rattle.request_trace.specs.Answering.{Freshness, Keeping, Stays, all_fresh, all_kept, told_by, answers_of}
 use Rattle.request_trace.specs.Tracing.{StepsByQuestions, TakesStepsToEnd, StepsByFresh, TakesFreshSteps}
 
 asked_twice : {Q : Type 0} (asked : Option (List Q)) (some more : List Q)
@@ -62,14 +62,14 @@ each_fresh : {Q : Type 0} (asked : List Q) → length (filter (λ question. true
 each_fresh [] = refl
 each_fresh (question ∷ asked) = (let e = each_fresh asked in omega (arith, e))
 
-steps_told : (is_fresh later_fresh : Freshness) (told : Option Tree) (stays others : Stays) (taken spent later : ℕ)
+steps_told : (is_fresh later_fresh : Freshness) (keeping later_keeping : Keeping) (told : Option Tree) (stays others : Stays) (taken spent later : ℕ)
     (config : Config) (before after : State) (result : Result Gathered TraceFault) → before.folder.holds ≡ told
     → spent ≡ later → before.trail ≡ no_trail
-    → Met (answers_of is_fresh stays taken before) (trace config) result (answers_of later_fresh others spent after)
+    → Met (answers_of is_fresh keeping stays taken before) (trace config) result (answers_of later_fresh later_keeping others spent after)
     → IfSome told
     (λ tree. (sights : Sights) → Sees tree before.known sights → StepsByFresh is_fresh sights config taken later)
-steps_told is_fresh later_fresh None stays others taken spent later config before after result holds same first met = tt
-steps_told is_fresh later_fresh (Some tree) stays others taken spent later config before after result holds same first met = λ sights sees.
+steps_told is_fresh later_fresh keeping later_keeping None stays others taken spent later config before after result holds same first met = tt
+steps_told is_fresh later_fresh keeping later_keeping (Some tree) stays others taken spent later config before after result holds same first met = λ sights sees.
     record {
       asked = asked_to_end (answers sights) no_trail (trace config);
       are = all_asked sights config;
@@ -81,12 +81,12 @@ steps_told is_fresh later_fresh (Some tree) stays others taken spent later confi
     }
 
 -- no more steps than fresh questions
-pub takes_fresh : (is_fresh later_fresh : Freshness) (stays others : Stays) (taken spent later : ℕ) (config : Config)
+pub takes_fresh : (is_fresh later_fresh : Freshness) (keeping later_keeping : Keeping) (stays others : Stays) (taken spent later : ℕ) (config : Config)
     (before after : State) (result : Result Gathered TraceFault) → spent ≡ later → before.trail ≡ no_trail
-    → Met (answers_of is_fresh stays taken before) (trace config) result (answers_of later_fresh others spent after)
+    → Met (answers_of is_fresh keeping stays taken before) (trace config) result (answers_of later_fresh later_keeping others spent after)
     → TakesFreshSteps is_fresh config before.folder before.known taken later
-takes_fresh is_fresh later_fresh stays others taken spent later config before after result same first met =
-    steps_told is_fresh later_fresh before.folder.holds stays others taken spent later config before after result refl same first met
+takes_fresh is_fresh later_fresh keeping later_keeping stays others taken spent later config before after result same first met =
+    steps_told is_fresh later_fresh keeping later_keeping before.folder.holds stays others taken spent later config before after result refl same first met
 
 by_questions : (sights : Sights) (config : Config) (taken spent : ℕ) → StepsByFresh all_fresh sights config taken spent
     → StepsByQuestions sights config taken spent
@@ -98,14 +98,14 @@ by_questions sights config taken spent by = record {
 
 pub takes_to_end : (stays others : Stays) (taken spent later : ℕ) (config : Config) (before after : State)
     (result : Result Gathered TraceFault) → spent ≡ later → before.trail ≡ no_trail
-    → Met (answers_of all_fresh stays taken before) (trace config) result (answers_of all_fresh others spent after)
+    → Met (answers_of all_fresh all_kept stays taken before) (trace config) result (answers_of all_fresh all_kept others spent after)
     → TakesStepsToEnd config before.folder before.known taken later
 takes_to_end stays others taken spent later config before after result same first met =
     if_some
     {P = λ tree. (sights : Sights) → Sees tree before.known sights → StepsByFresh all_fresh sights config taken later}
     {Q = λ tree. (sights : Sights) → Sees tree before.known sights → StepsByQuestions sights config taken later}
     before.folder.holds (λ tree each sights sees. by_questions sights config taken later (each sights sees))
-    (takes_fresh all_fresh all_fresh stays others taken spent later config before after result same first met)
+    (takes_fresh all_fresh all_fresh all_kept all_kept stays others taken spent later config before after result same first met)
 
 pub takes_nothing : (told : Option Tree) (known : Known) (config : Config) (taken : ℕ) → IfSome told
     (λ tree. (sights : Sights) → Sees tree known sights → StepsByQuestions sights config taken taken)

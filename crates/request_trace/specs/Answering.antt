@@ -2,17 +2,21 @@
 --     result_by response            what a question comes to, as the result of a call
 --     Freshness                     which questions are fresh, by what stands at each path
 --     all_fresh                     each question is
+--     Keeping                       of which questions an answer is kept, by what stands at each path
+--     all_kept                      none needs to be
 --     told_by is_fresh sights       the answers by what stands at each path, the looks of each question, and which are
 --                                   fresh
 --     ToldBy is_fresh folder known told      these are the answers so, as far as looks tell
 --     TakesStep is_fresh before question taken spent      no step, or one if the question is fresh, by all that looks
 --                                                         tell
+--     KeepsOn keeping later before  what is kept stays so, by all that looks tell
+--     KeepsAnswer later before question result      and an answer to the question is kept, where one is given
 --     Stays                         the references, and names that stay
 --     references_of lookup steps    where the answers write
 --     stays_of lookup steps         the same, where no names stay
---     answers_of is_fresh stays steps looks      what answers, in this state, behind so many steps
+--     answers_of is_fresh keeping stays steps looks      what answers, in this state, behind so many steps
 use Rattle.std.specs.Prelude.{◌≡◌, ◌≤◌, ◌+◌, ℕ, Bool, true, List, [], ◌∷◌, length, filter, Some, Result, Ok, Err}
-use Rattle.std.specs.Prelude.{IfSome}
+use Rattle.std.specs.Prelude.{⊤, IfOk, IfSome}
 use Rattle.tree_spec.specs.LookAskings.{Sights, looks}
 use Rattle.tree_spec.specs.LookLimits.{Trail}
 use Rattle.tree_spec.specs.States.{FolderState}
@@ -41,6 +45,12 @@ Freshness = Sights → Question → Bool
 abbrev pub all_fresh : Freshness
 all_fresh sights question = true
 
+abbrev pub Keeping : Type 1
+Keeping = Sights → Question → Type 0
+
+abbrev pub all_kept : Keeping
+all_kept sights question = ⊤
+
 abbrev pub told_by : Freshness → Sights → Told Trail Question Answer
 told_by is_fresh sights =
     record {
@@ -48,6 +58,7 @@ told_by is_fresh sights =
       always = always sights;
       looks = λ question. looks sights (put question);
       fresh = is_fresh sights;
+      stands = sights;
     }
 
 pub record ToldBy (is_fresh : Freshness) (folder : FolderState) (known : Known)
@@ -64,6 +75,17 @@ TakesStep is_fresh before question taken spent =
     (λ tree. (sights : Sights) → Sees tree before.known sights
     → spent ≤ taken + length (filter (is_fresh sights) (question ∷ [])))
 
+abbrev pub KeepsOn : Keeping → Keeping → State → Type 0
+KeepsOn keeping later before =
+    IfSome before.folder.holds
+    (λ tree. (sights : Sights) → Sees tree before.known sights → (question : Question) → keeping sights question
+    → later sights question)
+
+abbrev pub KeepsAnswer : {X : Type 0} → Keeping → State → Question → Result X TraceFault → Type 0
+KeepsAnswer later before question result =
+    IfSome before.folder.holds
+    (λ tree. (sights : Sights) → Sees tree before.known sights → IfOk result (λ answer. later sights question))
+
 -- own: what an answerer leaves as it is
 pub record Stays : Type 0 where
   pub references : List ℕ
@@ -76,8 +98,8 @@ references_of lookup steps =
 abbrev pub stays_of : {F : Type 0} → Lookup F → ℕ → Stays
 stays_of lookup steps = record { references = references_of lookup steps; names = [] }
 
-abbrev pub answers_of : Freshness → Stays → ℕ → State → AnswererState
-answers_of is_fresh stays steps looks =
+abbrev pub answers_of : Freshness → Keeping → Stays → ℕ → State → AnswererState
+answers_of is_fresh keeping stays steps looks =
     record {
       told = ToldBy is_fresh looks.folder looks.known;
       state = looks.trail;
@@ -90,4 +112,5 @@ answers_of is_fresh stays steps looks =
         writes = looks.folder.write_faults;
       };
       looks = looks;
+      is_kept = keeping;
     }

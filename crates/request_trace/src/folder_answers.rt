@@ -31,9 +31,9 @@ pub struct FolderAnswers<'a, 'b, F: Folder, L: Ledger> {
 impl<'a, 'b, F: Folder, L: Ledger> Answerer for FolderAnswers<'a, 'b, F, L> {
     ghost use Rattle.std.specs.Prelude.{⊤};
     ghost use Rattle.package_lookup.specs.Lookups.{state_of};
-    ghost use Rattle.request_trace.specs.Answering.{all_fresh, answers_of, stays_of};
+    ghost use Rattle.request_trace.specs.Answering.{all_fresh, all_kept, answers_of, stays_of};
 
-    ghost state = { λ answers. answers_of all_fresh (stays_of answers.lookup answers.steps.ghost_name)
+    ghost state = { λ answers. answers_of all_fresh all_kept (stays_of answers.lookup answers.steps.ghost_name)
         answers.steps.now (state_of F.state answers.lookup) };
 
     ghost ready = { λ answers. ⊤ };

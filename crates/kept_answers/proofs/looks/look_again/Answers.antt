@@ -28,26 +28,26 @@ returns-then-not-saw-clause-again g c =
 pub loop-look-preserved-else-not-saw : goal.loop-look-preserved-else-not-saw
 loop-look-preserved-else-not-saw g c = record {
   again =
-        again_goes (state_of g.F.Folder.state c.args.lookup.now)
-        (state_of g.F.Folder.state c.loop-look.lookup)
-        (state_of g.F.Folder.state c.seen_at.new.lookup) c.args.looks.now
-        c.loop-look.rest.now c.in-Some.others.now c.in-Some.look.now c.path.result.now c.loop-look.invariant.again (search rules)
-        c.path.ensures.path (entry_of c.in_ok-seen.seen) c.in_ok-seen.ensures.answered
-        (is_known c.seen_at.new.lookup.known.now c.path.result.now c.in_ok-seen.seen c.in-Some.look.now c.in_ok-seen.ensures.held
-        (c.saw.ensures.0 c.if-not-saw.false) c.path.ensures.path c.path.ensures.small);
+      again_goes (state_of g.F.Folder.state c.args.lookup.now)
+      (state_of g.F.Folder.state c.loop-look.lookup)
+      (state_of g.F.Folder.state c.seen_at.new.lookup) c.args.looks.now
+      c.loop-look.rest.now c.in-Some.others.now c.in-Some.look.now c.path.result.now c.loop-look.invariant.again (search rules)
+      c.path.ensures.path (entry_of c.in_ok-seen.seen) c.in_ok-seen.ensures.answered
+      (is_known c.seen_at.new.lookup.known.now c.path.result.now c.in_ok-seen.seen c.in-Some.look.now c.in_ok-seen.ensures.held
+      (c.saw.ensures.0 c.if-not-saw.false) c.path.ensures.path c.path.ensures.small);
   same = same_twice c.loop-look.invariant.same c.seen_at.ensures.same;
 }
 
 pub loop-look-preserved : goal.loop-look-preserved
 loop-look-preserved g c = record {
   again =
-        again_goes (state_of g.F.Folder.state c.args.lookup.now)
-        (state_of g.F.Folder.state c.loop-look.lookup)
-        (state_of g.F.Folder.state c.seen_at.new.lookup) c.args.looks.now
-        c.loop-look.rest.now c.in-Some.others.now c.in-Some.look.now c.path.result.now c.loop-look.invariant.again (search rules)
-        c.path.ensures.path (entry_of c.in_ok-seen.seen) c.in_ok-seen.ensures.answered
-        (is_known c.seen_at.new.lookup.known.now c.path.result.now c.in_ok-seen.seen c.in-Some.look.now c.in_ok-seen.ensures.held
-        (c.saw.ensures.0 c.if-not-saw.false) c.path.ensures.path c.path.ensures.small);
+      again_goes (state_of g.F.Folder.state c.args.lookup.now)
+      (state_of g.F.Folder.state c.loop-look.lookup)
+      (state_of g.F.Folder.state c.seen_at.new.lookup) c.args.looks.now
+      c.loop-look.rest.now c.in-Some.others.now c.in-Some.look.now c.path.result.now c.loop-look.invariant.again (search rules)
+      c.path.ensures.path (entry_of c.in_ok-seen.seen) c.in_ok-seen.ensures.answered
+      (is_known c.seen_at.new.lookup.known.now c.path.result.now c.in_ok-seen.seen c.in-Some.look.now c.in_ok-seen.ensures.held
+      (c.saw.ensures.0 c.if-not-saw.false) c.path.ensures.path c.path.ensures.small);
   same = same_twice c.loop-look.invariant.same c.seen_at.ensures.same;
 }
 

@@ -44,14 +44,14 @@ returns-in_err-push-clause-answered g c =
 pub loop-path-preserved : goal.loop-path-preserved
 loop-path-preserved g c = record {
   far =
-        far_goes (state_of g.F.Folder.state c.args.lookup.now)
-        (state_of g.F.Folder.state c.loop-path.lookup)
-        (state_of g.F.Folder.state c.seen_at.new.lookup) c.args.paths.now
-        c.loop-path.rest.now c.in-Some.others.now c.in-Some.path.now c.loop-path.looks c.loop-path.invariant.far (search rules)
-        c.in_ok-seen.seen c.in_ok-copy.field-0 c.of.result c.push.new.self c.in_ok-copy.ensures.same
-        c.in_ok-seen.ensures.answered c.in_ok-seen.ensures.held
-        (counted_small look_limits (λ path. entry_of c.in_ok-seen.seen) c.loop-path.lookup.trail.now c.in-Some.path.now
-        c.seen_at.new.lookup.trail.now c.in_ok-seen.ensures.counted) c.of.ensures c.in_ok-push.ensures;
+      far_goes (state_of g.F.Folder.state c.args.lookup.now)
+      (state_of g.F.Folder.state c.loop-path.lookup)
+      (state_of g.F.Folder.state c.seen_at.new.lookup) c.args.paths.now
+      c.loop-path.rest.now c.in-Some.others.now c.in-Some.path.now c.loop-path.looks c.loop-path.invariant.far (search rules)
+      c.in_ok-seen.seen c.in_ok-copy.field-0 c.of.result c.push.new.self c.in_ok-copy.ensures.same
+      c.in_ok-seen.ensures.answered c.in_ok-seen.ensures.held
+      (counted_small look_limits (λ path. entry_of c.in_ok-seen.seen) c.loop-path.lookup.trail.now c.in-Some.path.now
+      c.seen_at.new.lookup.trail.now c.in_ok-seen.ensures.counted) c.of.ensures c.in_ok-push.ensures;
   same = same_twice c.loop-path.invariant.same c.seen_at.ensures.same;
 }
 
