@@ -3,6 +3,7 @@ pub mod Certifying
 pub mod LookingAgain
 pub mod FreshSteps
 pub mod SharedFootprints
+pub mod SeenNow
 pub mod TableLemmas
 pub mod ModuleLemmas
 pub mod RequestLemmas

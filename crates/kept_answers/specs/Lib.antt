@@ -3,3 +3,4 @@ pub mod Entries
 pub mod Tables
 pub mod Freshness
 pub mod Footprints
+pub mod Puts

@@ -4,6 +4,7 @@ ghost use Rattle.std.specs.Bool.{Decides};
 ghost use Rattle.std.specs.Cmp.Lexicographic.{pointwise};
 ghost use Rattle.std.specs.HashMap as map;
 ghost use Rattle.kept_answers.specs.Entries.{Request, is_request};
+ghost use Rattle.kept_answers.specs.Freshness.{put_looks, request_looks};
 ghost use Rattle.kept_answers.specs.Tables.{requests_at, IsRequestOf, AreRequests};
 
 use crate::key::RequestKey;
@@ -73,6 +74,9 @@ impl KeptRequests {
 
     /// Keeps the answer to a request.
     pub fn put(&mut self, request: RequestKey, kept: KeptRequest) -> Result<(), Memory>
+        ensures set { OnOk result ((other : Request) → request_looks self.new other
+            ≡ put_looks is_request request kept.looks.value (request_looks self.old) other) }
+        ensures same { OnErr result ((other : Request) → request_looks self.new other ≡ request_looks self.old other) }
         ensures names { self.new.names ≡ self.old.names }
         ensures right { IsRequestOf self.old.names request kept → AreRequests self.old → AreRequests self.new }
     {

@@ -19,7 +19,7 @@ use Rattle.package_lookup.specs.Looked.{Sees}
 use Rattle.package_lookup.specs.Responses.{Response, given, fails, no_memory}
 use Rattle.package_lookup.specs.declared.known.Known.{Known}
 use Rattle.trace_walk.specs.Meeting.{Met, fine}
-use Rattle.request_trace.specs.Answering.{Freshness, Stays, TakesStep, answers_of}
+use Rattle.request_trace.specs.Answering.{Freshness, Keeping, Stays, TakesStep, KeepsOn, KeepsAnswer, answers_of}
 use Rattle.request_trace.proofs.AnswerLemmas.{afresh, met_by}
 use Rattle.kept_spec.specs.Certificates.{LookSeen}
 use Rattle.kept_answers.specs.Entries.{Request}
@@ -60,15 +60,18 @@ module _ (kept : Kept) (conditions : List (List ℕ)) (parent specifier : List �
 
 -- ---- an answer for the walk
 
-pub told_met : (is_fresh : Freshness) (stays : Stays) (taken spent : ℕ) (before after : State)
-    (question : Question) (response : Response (Answer question)) (result : Result (Answer question) TraceFault)
-    → TakesStep is_fresh before question taken spent → IsToldAs response result
-    → Answered (afresh before) (put question) response after
-    → Met (answers_of is_fresh stays taken before) (fine (ask question answered)) result
-    (answers_of is_fresh stays spent after)
-told_met is_fresh stays taken spent before after question response result takes told a =
+pub told_met : (is_fresh : Freshness) (keeping later_keeping : Keeping) (stays others : Stays) (taken spent : ℕ)
+    (before after : State) (question : Question) (response : Response (Answer question))
+    (result : Result (Answer question) TraceFault) → others ≡ stays → TakesStep is_fresh before question taken spent
+    → KeepsOn keeping later_keeping before → KeepsAnswer later_keeping before question result
+    → IsToldAs response result → Answered (afresh before) (put question) response after
+    → Met (answers_of is_fresh keeping stays taken before) (fine (ask question answered)) result
+    (answers_of is_fresh later_keeping others spent after)
+told_met is_fresh keeping later_keeping stays others taken spent before after question response result same takes on here told a =
     ⊎_elim
-    (λ is. met_by is_fresh stays taken spent before after question response result takes is a)
-    (λ behind. met_by is_fresh stays taken spent before after question (fails no_memory) result takes behind.2
+    (λ is. met_by is_fresh keeping stays taken spent before after question response result others later_keeping same takes
+    on here is a)
+    (λ behind. met_by is_fresh keeping stays taken spent before after question (fails no_memory) result others
+    later_keeping same takes on here behind.2
     (lost (afresh before) after (put question) behind.0
     (subst (λ (r : Response (Answer question)). Answered (afresh before) (put question) r after) behind.1 a))) told

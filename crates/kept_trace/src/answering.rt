@@ -8,10 +8,10 @@ ghost use Rattle.kept_trace.specs.Sharing.{IsToldAs};
 
 use crate::kept::Kept;
 use condition_match::Conditions;
-use kept_answers::{module_answer, request_answer};
+use kept_answers::Requested;
 use module_sources::{NoSource, Source};
 use node_resolve::{Found, NodeFault, resolve};
-use package_lookup::{Known, Trail};
+use package_lookup::Lookup;
 use request_trace::{node_answer, source_answer};
 use shared_types::{Memory, Steps};
 use std::alloc::Global;
@@ -24,43 +24,35 @@ use tree_model::{Folder, Path};
 /// Answers a walk's questions by what is kept of an earlier walk, else by looks at a folder, and keeps each answer for
 /// the next walk.
 #[derive(Drop)]
-pub struct KeptAnswers<'a, 'b, 'c, 'd, 'e, 'f, F: Folder, L: Ledger> {
-    pub(crate) folder: &'a mut F,
-    pub(crate) known: &'b mut Known,
-    pub(crate) steps: &'c mut Steps<L>,
-    pub(crate) trail: &'d mut Trail,
-    pub(crate) kept: &'e Kept,
-    pub(crate) next: &'f mut Kept,
+pub struct KeptAnswers<'a, 'b, 'c, 'd, F: Folder, L: Ledger> {
+    pub(crate) lookup: Lookup<'a, F>,
+    pub(crate) steps: &'b mut Steps<L>,
+    pub(crate) kept: &'c Kept,
+    pub(crate) next: &'d mut Kept,
 }
 
-impl<'a, 'b, 'c, 'd, 'e, 'f, F: Folder, L: Ledger> Answerer
-    for KeptAnswers<'a, 'b, 'c, 'd, 'e, 'f, F, L> {
-    ghost use Rattle.std.specs.Prelude.{[], ◌∷◌};
-    ghost use Rattle.package_lookup.specs.Answered.{state};
+impl<'a, 'b, 'c, 'd, F: Folder, L: Ledger> Answerer for KeptAnswers<'a, 'b, 'c, 'd, F, L> {
+    ghost use Rattle.package_lookup.specs.Lookups.{state_of};
     ghost use Rattle.request_trace.specs.Answering.{answers_of};
+    ghost use Rattle.kept_trace.specs.Keeping.{keeps, stays_of};
     ghost use Rattle.kept_trace.specs.Ready.{IsReady, is_anew};
 
-    ghost state = { λ answers. answers_of (is_anew answers.kept.now) (record {
-      references = answers.folder.ghost_name ∷ answers.known.ghost_name ∷ answers.steps.ghost_name
-          ∷ answers.trail.ghost_name ∷ answers.next.ghost_name ∷ [];
-      names = answers.kept.now.requests.names;
-    }) answers.steps.now (state (F.state answers.folder.now) answers.known.now answers.trail.now) };
+    ghost state = { λ answers. answers_of (is_anew answers.kept.now) (keeps answers.next.now)
+        (stays_of answers.lookup answers.steps.ghost_name answers.next.ghost_name answers.kept.now)
+        answers.steps.now (state_of F.state answers.lookup) };
 
-    ghost ready = { λ answers. IsReady (F.state answers.folder.now) answers.kept.now answers.next.now };
+    ghost ready = { λ answers. IsReady (F.state answers.lookup.folder.now) answers.kept.now answers.next.now };
 
     fn module(
         &mut self,
         alloc: Global,
         path: &Path,
     ) -> Result<Result<Source, NoSource>, TraceFault> {
-        let found = module_answer(
+        let found = self.kept.modules.answer(
             alloc,
-            self.known,
-            self.folder,
-            self.trail,
+            &mut self.lookup,
             path,
             self.steps,
-            &self.kept.modules,
             &mut self.next.modules,
         );
         source_answer(found)
@@ -76,9 +68,7 @@ impl<'a, 'b, 'c, 'd, 'e, 'f, F: Folder, L: Ledger> Answerer
         if !self.kept.requests.is_under(conditions) {
             let found = resolve(
                 alloc,
-                self.known,
-                self.folder,
-                self.trail,
+                &mut self.lookup,
                 parent,
                 specifier,
                 conditions,
@@ -86,16 +76,16 @@ impl<'a, 'b, 'c, 'd, 'e, 'f, F: Folder, L: Ledger> Answerer
             );
             return node_answer(found);
         }
-        let found = request_answer(
-            alloc,
-            self.known,
-            self.folder,
-            self.trail,
+        let request = Requested {
             parent,
             specifier,
             conditions,
+        };
+        let found = self.kept.requests.answer(
+            alloc,
+            &mut self.lookup,
+            request,
             self.steps,
-            &self.kept.requests,
             &mut self.next.requests,
         );
         shared_answer(alloc, found)
