@@ -1,12 +1,13 @@
 -- Answers whose looks see what stands there.
 --     looks_set, looks_same      a table by its looks
 --     seen_by              looks that are as is known behind an answer see what stood before it
---     seen_before, stays_before      what is so behind looks is so before them
+--     again_now, anew_now  looks again, and new ones
+--     seen_before, found_before, source_before, stays_before      what is so behind looks is so before them
 --     stays_as             what wasn't changed
 --     stays_put, now_put   what was put
 --     same_path, same_request      a key is itself
 use Rattle.std.proofs.Common.{◌≡◌, ℕ, Bool, true, false, List, Option, Some, None, Result, Ok, Err, IfSome, refl, sym, ap, ◌∙◌, subst}
-use Rattle.std.specs.Prelude.{not, All, bytes_eq, option_map, if◌then◌else◌, OnOk, OnErr}
+use Rattle.std.specs.Prelude.{not, All, bytes_eq, option_map, if◌then◌else◌, IfOk, OnOk, OnErr}
 use Rattle.std.proofs.lemmas.Slice.Eq.{bytes_eq-Decides}
 use Rattle.tree_spec.proofs.ToldStates.{if_all, if_some, if_two}
 use Rattle.tree_spec.specs.LookAskings.{Sights, LookAsking, look_at_each}
@@ -14,11 +15,12 @@ use Rattle.package_lookup.specs.Answered.{State, Tells, Answered}
 use Rattle.package_lookup.specs.Looked.{Sees}
 use Rattle.package_lookup.specs.Responses.{Response, given}
 use Rattle.package_lookup.proofs.Questions.{sees_still}
-use Rattle.kept_spec.specs.Certificates.{LookSeen, AreSeen}
+use Rattle.kept_spec.specs.Certificates.{LookSeen, paths_of, AreSeen}
 use Rattle.kept_spec.proofs.Freshening.{same_is_seen}
 use Rattle.kept_answers.specs.Entries.{Request, is_request}
 use Rattle.kept_answers.specs.Freshness.{is_fresh, IsSeenNow, StaysSeen, put_looks}
-use Rattle.kept_answers.specs.KnownLooks.{IsAsKnown, afresh}
+use Rattle.kept_answers.specs.KnownLooks.{IsAsKnown, afresh, IsSeenAgain}
+use Rattle.kept_answers.proofs.Certifying.{given_still}
 use Rattle.kept_answers.proofs.KnownLemmas.{all_seen}
 
 -- ---- a table by its looks
@@ -86,6 +88,32 @@ module _ (before middle : State) (paths : List (List ℕ))
       (subst (λ holds. IfSome holds
       (λ tree. (sights : Sights) → Sees tree middle.known sights → is_fresh sights old ≡ false
       → is_fresh sights new ≡ false)) a.folder.tree stays)
+
+pub found_before : {A E : Type 0} (result : Result A E) (before middle : State) (paths : List (List ℕ))
+    → Answered (afresh before) (look_at_each paths) (given tt) middle → (looks : Option (List LookSeen))
+    → IfOk result (λ found. IsSeenNow middle looks) → IfOk result (λ found. IsSeenNow before looks)
+found_before (Ok found) before middle paths a looks seen = seen_before before middle paths a looks seen
+found_before (Err fault) before middle paths a looks seen = tt
+
+pub source_before : {A B E : Type 0} (result : Result (Result A B) E) (before middle : State) (paths : List (List ℕ))
+    → Answered (afresh before) (look_at_each paths) (given tt) middle → (looks : Option (List LookSeen))
+    → IfOk result (λ answer. IfOk answer (λ source. IsSeenNow middle looks))
+    → IfOk result (λ answer. IfOk answer (λ source. IsSeenNow before looks))
+source_before (Ok answer) before middle paths a looks seen = found_before answer before middle paths a looks seen
+source_before (Err fault) before middle paths a looks seen = tt
+
+pub again_now : (before after : State) (looks shown : List LookSeen) → shown ≡ looks → IsSeenAgain before shown after
+    → IsSeenNow before (Some looks)
+again_now before after looks shown same again =
+    subst (λ ls. IsSeenNow before (Some ls)) same
+    (seen_by before after (look_at_each (paths_of shown)) (given tt) shown again.answered again.each)
+
+pub anew_now : {X : Type 0} (before middle after : State) (asking : LookAsking X) (value : X) (looks : List LookSeen)
+    → Answered (afresh before) asking (given value) middle
+    → Answered middle (look_at_each middle.trail.question) (given tt) after → All (IsAsKnown after.known) looks
+    → IsSeenNow before (Some looks)
+anew_now before middle after asking value looks first last each =
+    seen_by before after asking (given value) looks (given_still asking value before middle after first last) each
 
 -- ---- what is put
 

@@ -8,6 +8,9 @@ use Rattle.trace_spec.specs.Questions.{module_source}
 use Rattle.kept_answers.specs.Entries.{source_seen}
 use Rattle.kept_answers.proofs.FreshSteps.{none_taken, other_again, other_taken}
 use Rattle.kept_answers.proofs.ModuleLemmas.{is_kept}
+use Rattle.std.specs.Prelude.{bytes_eq}
+use Rattle.kept_answers.specs.Freshness.{module_looks}
+use Rattle.kept_answers.proofs.SeenNow.{source_before, stays_before, again_now, stays_as, stays_put, now_put, same_path}
 use Rattle.kept_answers.proofs.sources.module_again.Goals as goal
 
 pub returns-in-Err-clause-answered : goal.returns-in-Err-clause-answered
@@ -89,3 +92,39 @@ returns-in-Ok-false-clause-fresh g c =
     (other_again (state_of g.F.Folder.state c.args.lookup.now)
     (state_of g.F.Folder.state c.look_again.new.lookup) c.looks.result.now c.in-Ok-false.field-0 c.in-Ok-false.field-0-test c.in-Ok-false.ensures.again)
     c.module_anew.ensures.cost
+
+pub returns-in-Err-clause-still : goal.returns-in-Err-clause-still
+returns-in-Err-clause-still g c = λ other. stays_as (state_of g.F.Folder.state c.args.lookup.now) _ _ refl
+
+pub returns-in-Err-keep_again-clause-still : goal.returns-in-Err-keep_again-clause-still
+returns-in-Err-keep_again-clause-still g c = λ other.
+    stays_as (state_of g.F.Folder.state c.args.lookup.now) _ _ (c.in-Err-keep_again.ensures.unset other)
+
+pub returns-in-Ok-clause-kept : goal.returns-in-Ok-clause-kept
+returns-in-Ok-clause-kept g c =
+    now_put (state_of g.F.Folder.state c.args.lookup.now) bytes_eq c.args.path.now c.args.found.now.looks (module_looks c.args.next.now)
+    (module_looks c.keep_again.new.next) c.in-Ok.ensures.set
+    (again_now (state_of g.F.Folder.state c.args.lookup.now) (state_of g.F.Folder.state c.look_again.new.lookup) c.args.found.now.looks c.looks.result.now c.looks.ensures
+    (seen_again (state_of g.F.Folder.state c.args.lookup.now)
+    (state_of g.F.Folder.state c.look_again.new.lookup) c.looks.result.now c.in-Ok-true.field-0 c.in-Ok-true.field-0-test c.in-Ok-true.ensures.again))
+    c.args.path.now (same_path c.args.path.now)
+
+pub returns-in-Ok-clause-still : goal.returns-in-Ok-clause-still
+returns-in-Ok-clause-still g c =
+    stays_put (state_of g.F.Folder.state c.args.lookup.now) bytes_eq c.args.path.now c.args.found.now.looks (module_looks c.args.next.now)
+    (module_looks c.keep_again.new.next) c.in-Ok.ensures.set
+    (again_now (state_of g.F.Folder.state c.args.lookup.now) (state_of g.F.Folder.state c.look_again.new.lookup) c.args.found.now.looks c.looks.result.now c.looks.ensures
+    (seen_again (state_of g.F.Folder.state c.args.lookup.now)
+    (state_of g.F.Folder.state c.look_again.new.lookup) c.looks.result.now c.in-Ok-true.field-0 c.in-Ok-true.field-0-test c.in-Ok-true.ensures.again))
+
+pub returns-in-Ok-false-clause-kept : goal.returns-in-Ok-false-clause-kept
+returns-in-Ok-false-clause-kept g c =
+    let to = (seen_other (state_of g.F.Folder.state c.args.lookup.now)
+    (state_of g.F.Folder.state c.look_again.new.lookup) c.looks.result.now c.in-Ok-false.field-0 c.in-Ok-false.field-0-test c.in-Ok-false.ensures.again) in
+    source_before c.module_anew.result (state_of g.F.Folder.state c.args.lookup.now) (state_of g.F.Folder.state c.look_again.new.lookup) _ to.answered _ c.module_anew.ensures.kept
+
+pub returns-in-Ok-false-clause-still : goal.returns-in-Ok-false-clause-still
+returns-in-Ok-false-clause-still g c =
+    let to = (seen_other (state_of g.F.Folder.state c.args.lookup.now)
+    (state_of g.F.Folder.state c.look_again.new.lookup) c.looks.result.now c.in-Ok-false.field-0 c.in-Ok-false.field-0-test c.in-Ok-false.ensures.again) in
+    λ other. stays_before (state_of g.F.Folder.state c.args.lookup.now) (state_of g.F.Folder.state c.look_again.new.lookup) _ to.answered _ _ (c.module_anew.ensures.still other)
