@@ -36,6 +36,7 @@ use Rattle.session_spec.specs.Openings.{refresh_words, CanOpen}
 use Rattle.session_spec.specs.SessionLooks.{IsSessionLook, AsksFresh, AsksWithin}
 use Rattle.session_spec.specs.SessionRuns.{StatesServe, NoFault, RepliesTo, RepliesToAll, SessionComesTo, SessionSays, SessionStops, SessionEnds}
 use Rattle.session_spec.proofs.SessionSpending.{none_spent}
+use Rattle.session_spec.specs.TakenInput.{NoTake}
 use Rattle.generator_core.specs.Configuring.{StopsConfig, StopsConfig as stops_config}
 use Rattle.generator_core.specs.Writing.{TellsStop, TellsWords}
 use Rattle.generator_core.proofs.Endings.{some_same, still}
@@ -105,7 +106,7 @@ ends_before before middle after source later out gone result spent spent_after l
       takes = is.takes;
       few = is.few;
       awaited = is.awaited;
-      opened = of_before before middle after looked.tree quiet source later is.taken (λ tree. (is.taken ≡ []) ⊎ CanOpen tree) is.opened;
+      opened = of_before before middle after looked.tree quiet source later is.taken (λ tree. NoTake source is.taken later ⊎ CanOpen tree) is.opened;
       steps = is.steps;
       asked = asks_both is.taken middle.holds before.holds looked.tree middle after before.asked own held.fresh;
       stops = stops_before before middle after looked.tree quiet source later is.taken out gone result is.stops;
@@ -133,8 +134,8 @@ module _ (before after : FolderState) (source : SourceState) (out gone : SinkSta
     taken = [];
     takes = takes_none source;
     few = omega arith;
-    awaited = none_awaited;
-    opened = if_all before.holds (λ tree. inl refl);
+    awaited = none_awaited source;
+    opened = if_all before.holds (λ tree. inl (record { nothing = refl; same = refl }));
     asked = if_some before.asked (λ old is. record { first = is.first; is_first = is.is_own; then = nothing_fresh before.holds after (old ++ is.first) is.asked }) own;
     steps = none_spent [] spent;
     stops = stops;

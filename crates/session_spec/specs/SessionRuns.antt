@@ -36,7 +36,7 @@ use Rattle.session_spec.specs.SessionLooks.{AsksWithin}
 use Rattle.session_spec.specs.SessionSteps.{SessionSpends}
 use Rattle.session_spec.specs.SessionStates.{Counts, SessionState, IsGenerated}
 use Rattle.session_spec.specs.Talks.{Standing, begun, turn_of, Talks}
-use Rattle.session_spec.specs.TakenInput.{Takes, LeavesOpen, IsAwaited}
+use Rattle.session_spec.specs.TakenInput.{Takes, NoTake, LeavesOpen, IsAwaited}
 
 -- ---- what is said
 
@@ -170,8 +170,8 @@ pub record SessionEnds (before after : FolderState) (source later : SourceState)
   pub taken : List ℕ
   pub takes : Takes source taken later
   pub few : length taken ≤ limit_number Session + 1
-  pub awaited : IsAwaited taken
-  pub opened : IfSome before.holds (λ tree. (taken ≡ []) ⊎ CanOpen tree)
+  pub awaited : IsAwaited source taken later
+  pub opened : IfSome before.holds (λ tree. NoTake source taken later ⊎ CanOpen tree)
   pub asked : IfSome before.asked (λ old. AsksWithin before.holds taken old after)
   pub steps : SessionSpends taken spent spent_after
   pub stops : SessionStops before after source later taken out out_after result

@@ -95,7 +95,7 @@ pub record Goes (Stands : SessionState → List ℕ → List ℕ → Type 0) (Ma
   pub takes : Takes first.source taken now.source
   pub limit : first.waiting.room ≡ limit_number Session
   pub room : first.waiting.room ≡ length taken + now.waiting.room
-  pub awaited : IsAwaited taken
+  pub awaited : IsAwaited first.source taken now.source
   pub text : List ℕ
   pub said : now.out.got ≡ option_map (λ front. front ++ text) first.out.got
   pub stands : IfSome first.editor.told (λ state. Stands state taken text)
@@ -180,7 +180,7 @@ pub record Converses (first : Now) (editor : EditorState) (source : SourceState)
   pub taken : List ℕ
   pub takes : Takes first.source taken source
   pub few : length taken ≤ limit_number Session + 1
-  pub awaited : IsAwaited taken
+  pub awaited : IsAwaited first.source taken source
   pub looks : Looks first (take (limit_number Session) taken) editor.asked
   pub steps : SpendsFor (take (limit_number Session) taken) first.editor.spent editor.spent
   pub stops : Stops first editor source out taken result
