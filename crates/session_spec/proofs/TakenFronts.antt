@@ -11,7 +11,7 @@ use Rattle.session_spec.specs.declared.Change.{Change}
 use Rattle.session_spec.specs.Conversations.{Turn, makes, holds, shows, ends, refuses, stops, turn_at}
 use Rattle.session_spec.specs.Laws.{NoTakeBehindEnd}
 use Rattle.session_spec.specs.SessionLines.{Rest}
-use Rattle.session_spec.specs.SessionSteps.{MakesEdits}
+use Rattle.session_spec.specs.SessionSteps.{MakesEdits, generations}
 use Rattle.session_spec.specs.SessionSteps as spending
 use Rattle.session_spec.specs.TakenInput.{LastBrought, NoTake, LastTake, TakesWhile, LeavesOpen}
 use Rattle.session_spec.proofs.Conversing.{turn_on}
@@ -132,7 +132,7 @@ module _ (front more : List ℕ) where
         | inr goes ↦ inr (sym (turn_in more held on.at goes) ∙ ap (turn_at held) (sym on.whole) ∙ is)
       ]
 
-  made_on : (count : ℕ) (held : Option (List Change)) (from : List ℕ) (edit : List Change) (rest : Rest) → turn_at held from ≡ makes edit rest → Waits ⊎ GoesOn count held from → Waits ⊎ GoesOn (count + 1) None rest.behind
+  made_on : (count : ℕ) (held : Option (List Change)) (from : List ℕ) (edit : List Change) (rest : Rest) → turn_at held from ≡ makes edit rest → Waits ⊎ GoesOn count held from → Waits ⊎ GoesOn (count + generations edit) None rest.behind
   made_on count held from edit rest is (inl waits) = inl waits
   made_on count held from edit rest is (inr on) =
       elim (turned count held from (makes edit rest) on is) [

@@ -36,7 +36,7 @@ use Rattle.session_spec.specs.Conversations.{Answers, stops, map_reply, end_repl
 use Rattle.session_spec.specs.SessionLines.{Order, Rest, reads, read_line}
 use Rattle.session_spec.specs.SessionLooks.{IsTriedLook}
 use Rattle.session_spec.specs.SessionStates.{SessionState}
-use Rattle.session_spec.specs.SessionSteps.{MakesEdits, SpendsFor, most_steps}
+use Rattle.session_spec.specs.SessionSteps.{generations, MakesEdits, SpendsFor, most_steps}
 use Rattle.session_spec.specs.TakenInput.{Takes, LeavesOpen, IsAwaited}
 use Rattle.session_spec.specs.Talks.{Standing, begun, turn_of, Talks}
 use Rattle.session_input.specs.Readers.{Waiting}
@@ -208,15 +208,15 @@ pub data Makes (before : EditorState) (edit : List Change) (out : SinkState) (af
     (out_after : SinkState) (result : Option ℕ) : Type 0 where
   replied :
       (line : List ℕ) → EditsTold before edit line after → EditsLook before edit after
-      → after.spent ≤ before.spent + most_steps → GivesReply line out out_after result
+      → after.spent ≤ before.spent + generations edit * most_steps → GivesReply line out out_after result
       → Makes before edit out after out_after result
   fails :
       (status : ℕ) → result ≡ Some status → Rose before.faults after.faults → EditsLook before edit after
-      → after.spent ≤ before.spent + most_steps → Ends read_fault_status read_fault_line out out_after status
+      → after.spent ≤ before.spent + generations edit * most_steps → Ends read_fault_status read_fault_line out out_after status
       → Makes before edit out after out_after result
   wants :
       (status : ℕ) → result ≡ Some status → after.faults ≡ before.faults → EditsLook before edit after
-      → after.spent ≤ before.spent + most_steps → Ends memory_status memory_line out out_after status
+      → after.spent ≤ before.spent + generations edit * most_steps → Ends memory_status memory_line out out_after status
       → Makes before edit out after out_after result
 
 pub data ShowsMap (editor : EditorState) (out after : SinkState) (result : Option ℕ) : Type 0 where
