@@ -19,8 +19,11 @@ use Rattle.session_spec.proofs.LinesWhole.{turn_in}
 
 -- ---- takes one after another
 
+pub no_take : (source : SourceState) → NoTake source [] source
+no_take source = record { nothing = refl; same = refl }
+
 pub untaken : (Held : List ℕ → Type 0) (source : SourceState) → TakesWhile Held source [] source
-untaken Held source = inl (record { nothing = refl; same = refl })
+untaken Held source = inl (no_take source)
 
 brought_then : (source middle later : SourceState) (some more : ℕ) → LastBrought source some middle → LastBrought middle more later → LastBrought source more later
 brought_then source middle later some more a b = b ∙ ap (option_map (λ (earlier : ℕ). more)) a ∙ twice source.latest
