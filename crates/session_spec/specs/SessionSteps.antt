@@ -1,9 +1,11 @@
 -- How many steps a session takes. own.
 --     generations edit                how many generations an edit needs
---     MakesEdits input edits held behind      the lines of an input up to there make so many edits that need one; held: the
---                                     changes since a `begin`, where one is open; behind: the input from there on
+--     MakesEdits input edits held behind      the lines of an input up to there make so many edits that need one; held:
+--                                     the changes since a `begin`, where one is open; behind: the input from there
+--                                     on
 --     most_steps                      how many steps a generation takes, at most
---     SpendsFor input before after    as many at most as one generation takes for each such edit to which the input comes
+--     SpendsFor input before after    as many at most as one generation takes for each such edit to which the input
+--                                     comes
 --     SessionSpends taken before after        the same, with one generation more, for the opening; as far as the limit
 --                                     allows
 use Rattle.std.specs.Prelude.{◌≡◌, ◌≤◌, ◌+◌, ◌*◌, ◌∷◌, [], ℕ, List, take, Option, Some, None}

@@ -212,7 +212,8 @@ pub data Makes (before : EditorState) (edit : List Change) (out : SinkState) (af
       → Makes before edit out after out_after result
   fails :
       (status : ℕ) → result ≡ Some status → Rose before.faults after.faults → EditsLook before edit after
-      → after.spent ≤ before.spent + generations edit * most_steps → Ends read_fault_status read_fault_line out out_after status
+      → after.spent ≤ before.spent + generations edit * most_steps
+      → Ends read_fault_status read_fault_line out out_after status
       → Makes before edit out after out_after result
   wants :
       (status : ℕ) → result ≡ Some status → after.faults ≡ before.faults → EditsLook before edit after
