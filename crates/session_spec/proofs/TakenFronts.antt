@@ -198,7 +198,7 @@ brought_is (Some earlier) after some count e told = cc
 
 -- the last take brought no byte of the first
 module _ (taken more front last : List ℕ) (whole : taken ++ more ≡ front ++ last) (few : length last ≤ length more) where
-  gap : ℕ
+  abbrev gap : ℕ
   gap = length more - length last
 
   longer : length front ≡ length taken + gap
