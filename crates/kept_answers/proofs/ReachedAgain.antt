@@ -1,12 +1,12 @@
 -- The looks of a question up to the first limit, by looks at paths of its footprint.
 --     reached_first            what looks at the first paths reach, the question's looks do
 --     reached_behind_front     what its looks reach where a front of them went before, they reach without that
-use Rattle.std.proofs.Common.{◌≡◌, ◌⊎◌, ℕ, Bool, true, false, List, [], ◌∷◌, ◌++◌, refl, sym, ap, ◌∙◌, subst, inl, inr}
+use Rattle.std.proofs.Common.{◌≡◌, ◌⊎◌, ℕ, Bool, true, false, List, [], ◌∷◌, ◌++◌, refl, sym, ap, ◌∙◌, inl, inr}
 use Rattle.std.specs.Prelude.{if◌then◌else◌}
 use Rattle.std.proofs.lemmas.Bool.{cond-true, cond-false}
 use Rattle.asking_spec.specs.Evaluation.{ends, stopped, then_ended}
 use Rattle.tree_spec.proofs.LimitedLooks.{LookEnd, visited, visited_append}
-use Rattle.tree_spec.specs.LookAskings.{Sights, LookAsking, look_at_each, looks, is_seen, noted, footprint}
+use Rattle.tree_spec.specs.LookAskings.{Sights, look_at_each, looks, is_seen, noted}
 use Rattle.tree_spec.specs.LookLimits.{LookLimits, Trail, begun}
 use Rattle.package_lookup.specs.Trails.{IsReached}
 use Rattle.kept_spec.specs.Replays.{IsFront}
