@@ -1,6 +1,7 @@
 -- The key that is found, in the words of the choice among keys.
 --     keys_of members      the keys of an object's members, in order
 --     IsFound keys asked found      the match stands for the choice among these keys, at a place where that key is
+--     Finds keys asked result      so does what is found, if anything is
 --     HasSpan asked found      the span of the match may be cut out of the text
 use Rattle.std.specs.Prelude.{◌≡◌, ◌≤◌, ℕ, List, slice_get, Option, Some, MatchOption, if◌then◌else◌, true}
 use Rattle.std.specs.Str.{IsCharBoundary}

@@ -3,9 +3,14 @@
 
 ghost use Rattle.exports_patterns.specs.OneFound.{OneFound};
 
+mod few;
+mod fronts;
+mod keys;
+mod parts;
 mod pattern_keys;
 
-pub use pattern_keys::{Match, best_match};
+pub use keys::{Keys, keys_in};
+pub use pattern_keys::{Match, best_match, place_of};
 
 /// Among the keys of an object, which are distinct, one match is found at most.
 pub fn one_found()

@@ -1,12 +1,18 @@
-ghost use Rattle.std.specs.Prelude.{◌≡◌, ◌≢◌, ◌<◌, ◌≤◌, ◌↔◌, ◌+◌, ◌++◌, ◌∷◌, [], List, ℕ, length, slice_get, Some};
-ghost use Rattle.std.specs.Prelude.{MatchOption, IfSome, IsTrue};
-ghost use Rattle.json_spec.specs.Value.{AreDistinct};
-ghost use Rattle.ordered_json.specs.Lists.{pairs_of};
-ghost use Rattle.ordered_json.specs.Shown.{members_of};
-ghost use Rattle.node_spec.specs.PatternKeys.{HasNoStar, IsPattern, KeyMatch, Matches, MatchesNone, GoesBefore};
-ghost use Rattle.exports_patterns.specs.Found.{keys_of, match_shown, Finds, HasSpan, IsFound, IsMatch};
+ghost use Rattle.std.specs.Prelude.{◌≡◌, ◌≤◌, List, ℕ, length, take, reverse, slice_get, Some};
+ghost use Rattle.std.specs.Prelude.{IfOk, IfSome, MatchOption};
+ghost use Rattle.node_spec.specs.PatternKeys.{HasNoStar, StartsWith};
+ghost use Rattle.exports_patterns.specs.Fitting.{NoneFits, IsFitting, IsBestFitting, IsTried};
+ghost use Rattle.exports_patterns.specs.Found.{keys_of, Finds, HasSpan};
+ghost use Rattle.exports_patterns.specs.Fronts.{StandsAt};
+ghost use Rattle.exports_patterns.specs.Indexes.{Group, IsIndex, IsKeyIndex};
 
+use crate::few::{best_of_few, place_of_few};
+use crate::fronts::Fronts;
+use crate::keys::{KeyIndex, Keys};
+use crate::parts::reversed;
 use ordered_json::Members;
+use shared_types::Memory;
+use std::alloc::Global;
 
 /// How a key matches.
 #[derive(Clone, Copy, Debug, PartialEq, Eq)]
@@ -23,147 +29,135 @@ pub struct Match {
 
 /// The key that matches a text and that no other matching key precedes (Node.js, ECMAScript modules:
 /// PACKAGE_IMPORTS_EXPORTS_RESOLVE). None where no key matches.
-pub fn best_match(keys: &Members, key: &str) -> Option<Match>
-    requires { AreDistinct (members_of (pairs_of keys.now)) }
-    ensures choice { MatchOption result (MatchesNone (keys_of keys.now) key.now) (IsFound (keys_of keys.now) key.now) }
-    ensures span { IfSome result (HasSpan key.now) }
+pub fn best_match(
+    alloc: Global,
+    keys: &Keys,
+    members: &Members,
+    asked: &str,
+) -> Result<Option<Match>, Memory>
+    requires { IsIndex (keys_of members.now) keys.now }
+    ensures choice { IfOk result (Finds (keys_of members.now) asked.now) }
+    ensures span { IfOk result (λ found. IfSome found (HasSpan asked.now)) }
 {
-    let mut best = None;
-    for index in 0..keys.len() {
-        let Some(name) = key_at(keys, index) else {
-            break;
-        };
-        best = with_key(best, index, name, key);
-    }
-    best
-}
-
-fn key_at(keys: &Members, index: usize) -> Option<&str>
-    ensures { MatchOption result (length (keys_of keys.now) ≤ index)
-        (λ name. slice_get (keys_of keys.now) index ≡ Some name.now) }
-{
-    match keys.at(index) {
-        None => None,
-        Some((name, _)) => Some(name.as_str()),
+    match &keys.index {
+        None => Ok(best_of_few(members, asked)),
+        Some(index) => best_indexed(alloc, index, asked),
     }
 }
 
-// What is found, where one more key stands behind those that were looked at.
-fn with_key(best: Option<Match>, index: usize, name: &str, asked: &str) -> Option<Match>
-    ensures span { IfSome best (HasSpan asked.now) → IfSome result (HasSpan asked.now) }
-    ensures found { (done : List (List ℕ)) → length done ≡ index → Finds done asked.now best
-        → Finds (done ++ name.now ∷ []) asked.now result }
+/// The place of the key that is this text and no pattern.
+pub fn place_of(keys: &Keys, members: &Members, asked: &str) -> Option<usize>
+    requires { IsIndex (keys_of members.now) keys.now }
+    ensures { MatchOption result
+        ((place : ℕ) → HasNoStar asked.now → slice_get (keys_of members.now) place ≡ Some asked.now → ⊥)
+        (λ place. slice_get (keys_of members.now) place ≡ Some asked.now) }
 {
-    match matched(index, name, asked) {
-        None => best,
-        Some(found) => match best {
-            None => Some(found),
-            Some(held) => {
-                if precedes(found, held) {
-                    Some(found)
-                } else {
-                    Some(held)
-                }
-            }
-        },
+    match &keys.index {
+        None => place_of_few(members, asked),
+        Some(index) => place_in(index, asked),
     }
 }
 
-// Of two keys that match one text, whether the first goes before the second: of two patterns the one with the longer
-// base, and of two with one base the longer key, whose pattern match ends earlier.
-fn precedes(found: Match, other: Match) -> bool
-    ensures { IsTrue result ↔ GoesBefore (match_shown found) (match_shown other) }
+fn best_indexed(alloc: Global, keys: &KeyIndex, asked: &str) -> Result<Option<Match>, Memory>
+    ensures choice { IfOk result (λ found. (names : List (List ℕ)) → IsKeyIndex names keys.now
+        → Finds names asked.now found) }
+    ensures span { IfOk result (λ found. (names : List (List ℕ)) → IsKeyIndex names keys.now
+        → IfSome found (HasSpan asked.now)) }
 {
-    if found.exact || other.exact {
-        return found.exact && !other.exact;
+    if let Some(index) = place_in(keys, asked) {
+        return Ok(Some(Match {
+            index,
+            exact: true,
+            from: 0,
+            to: 0,
+        }));
     }
-    other.from < found.from || other.from == found.from && found.to < other.to
+    let back = reversed(alloc, asked)?;
+    Ok(best_pattern(&keys.patterns, asked, back.as_bytes()))
 }
 
-fn matched(index: usize, name: &str, asked: &str) -> Option<Match>
-    ensures matches { MatchOption result ((found : KeyMatch) → Matches asked.now name.now found → ⊥)
-        (λ found. (found.index ≡ index) × IsMatch asked.now name.now found) }
-    ensures span { IfSome result (HasSpan asked.now) }
+fn place_in(keys: &KeyIndex, asked: &str) -> Option<usize>
+    ensures { (names : List (List ℕ)) → IsKeyIndex names keys.now → MatchOption result
+        ((place : ℕ) → HasNoStar asked.now → slice_get names place ≡ Some asked.now → ⊥)
+        (λ place. (slice_get names place ≡ Some asked.now) × HasNoStar asked.now) }
 {
-    match at_star(name) {
-        None => exact_match(index, name, asked),
-        Some((base, trailer)) => match at_star(trailer) {
-            None => pattern_match(index, base, trailer, asked),
-            Some(_) => None,
-        },
-    }
-}
-
-fn exact_match(index: usize, name: &str, asked: &str) -> Option<Match>
-    requires { HasNoStar name.now }
-    ensures matches { MatchOption result ((found : KeyMatch) → Matches asked.now name.now found → ⊥)
-        (λ found. (found.index ≡ index) × IsMatch asked.now name.now found) }
-    ensures span { IfSome result (HasSpan asked.now) }
-{
-    if name != asked {
+    let at = keys.exact.top(asked.as_bytes());
+    if at == 0 {
         return None;
     }
-    Some(Match {
-        index,
-        exact: true,
-        from: 0,
-        to: 0,
-    })
+    match keys.exact.at(at - 1) {
+        None => None,
+        Some((key, place)) => {
+            if key.len() == asked.len() {
+                Some(*place)
+            } else {
+                None
+            }
+        }
+    }
 }
 
-fn pattern_match(index: usize, base: &str, trailer: &str, asked: &str) -> Option<Match>
-    ensures span { IfSome result (HasSpan asked.now) }
-    ensures matches { (name : List ℕ) → IsPattern name base.now trailer.now
-        → MatchOption result ((found : KeyMatch) → Matches asked.now name found → ⊥)
-        (λ found. (found.index ≡ index) × IsMatch asked.now name found) }
+// The pattern with the longest base that fits, and of those with that base the longest.
+fn best_pattern(patterns: &Fronts<Fronts<usize>>, asked: &str, back: &[u8]) -> Option<Match>
+    requires { back.now ≡ reverse asked.now }
+    ensures { MatchOption result (IsTried asked.now patterns.now 0) (IsBestFitting asked.now patterns.now) }
 {
-    match pattern_end(asked, base, trailer) {
+    let mut at = patterns.top(asked.as_bytes());
+    while at > 0 {
+        match pattern_at(patterns, at - 1, asked, back) {
+            None => {}
+            Some(found) => return Some(found),
+        }
+        at = patterns.next(at, asked.as_bytes());
+    }
+    None
+}
+
+// The longest pattern of the group at a place that fits, if its base begins the text.
+fn pattern_at(
+    patterns: &Fronts<Fronts<usize>>,
+    place: usize,
+    asked: &str,
+    back: &[u8],
+) -> Option<Match>
+    requires { back.now ≡ reverse asked.now }
+    ensures { (base : List ℕ) (group : Group) → StandsAt patterns.now place (base, group) → StartsWith asked.now base
+        → MatchOption result (NoneFits asked.now base group) (IsFitting asked.now base group) }
+{
+    match patterns.at(place) {
         None => None,
-        Some(to) => Some(Match {
-            index,
+        Some((base, group)) => fitting(base, group, asked, back),
+    }
+}
+
+fn fitting(base: &[u8], group: &Fronts<usize>, asked: &str, back: &[u8]) -> Option<Match>
+    requires { back.now ≡ reverse asked.now }
+    ensures { StartsWith asked.now base.now
+        → MatchOption result (NoneFits asked.now base.now group.now) (IsFitting asked.now base.now group.now) }
+{
+    if asked.len() <= base.len() {
+        return None;
+    }
+    // At least one byte stands for the star.
+    let room = asked.len() - base.len() - 1;
+    let at = group.top(front(back, room));
+    if at == 0 {
+        return None;
+    }
+    match group.at(at - 1) {
+        None => None,
+        Some((trailer, place)) => Some(Match {
+            index: *place,
             exact: false,
             from: base.len(),
-            to,
+            to: asked.len() - trailer.len(),
         }),
     }
 }
 
-// What stands before the first star and after it.
-fn at_star(text: &str) -> Option<(&str, &str)>
-    ensures { MatchOption result (HasNoStar text.now)
-        (λ parts. (text.now ≡ parts.0.now ++ 42 ∷ parts.1.now) × HasNoStar parts.0.now) }
+fn front(text: &[u8], count: usize) -> &[u8]
+    requires { count ≤ length text.now }
+    ensures { result.now ≡ take count text.now }
 {
-    text.split_once('*')
-}
-
-// Where the pattern match ends, which stands between the base and the trailer and isn't empty.
-fn pattern_end(asked: &str, base: &str, trailer: &str) -> Option<usize>
-    ensures { MatchOption result ((part : List ℕ) → asked.now ≡ base.now ++ (part ++ trailer.now) → part ≡ [])
-        (λ to. (part : List ℕ) × (asked.now ≡ base.now ++ (part ++ trailer.now)) × (part ≢ [])
-        × (to ≡ length base.now + length part)) }
-{
-    let Some(rest) = behind(asked.as_bytes(), base.as_bytes()) else {
-        return None;
-    };
-    let Some(part) = ahead_of(rest, trailer.as_bytes()) else {
-        return None;
-    };
-    if part.is_empty() {
-        return None;
-    }
-    Some(base.len() + part.len())
-}
-
-fn behind<'a>(text: &'a [u8], front: &[u8]) -> Option<&'a [u8]>
-    ensures { MatchOption result ((rest : List ℕ) → text.now ≢ front.now ++ rest)
-        (λ rest. text.now ≡ front.now ++ rest.now) }
-{
-    text.strip_prefix(front)
-}
-
-fn ahead_of<'a>(text: &'a [u8], end: &[u8]) -> Option<&'a [u8]>
-    ensures { MatchOption result ((front : List ℕ) → text.now ≢ front ++ end.now)
-        (λ front. text.now ≡ front.now ++ end.now) }
-{
-    text.strip_suffix(end)
+    &text[..count]
 }

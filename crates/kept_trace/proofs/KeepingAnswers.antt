@@ -35,7 +35,7 @@ use Rattle.trace_spec.specs.Questions as spec
 use Rattle.trace_spec.specs.Questions.{Question, Answer, of_module, of_request, put, always}
 use Rattle.trace_spec.specs.declared.TraceFault.{TraceFault}
 use Rattle.request_trace.specs.Answering.{result_by, KeepsOn, KeepsAnswer}
-use Rattle.request_trace.proofs.AnswerLemmas.{afresh, answers_always}
+use Rattle.request_trace.proofs.AnswerLemmas.{afresh}
 use Rattle.kept_spec.specs.Certificates.{LookSeen}
 use Rattle.kept_answers.specs.Entries.{Request}
 use Rattle.kept_answers.specs.Freshness.{module_looks, request_looks, is_fresh, IsSeenNow, StaysSeen}
@@ -46,7 +46,7 @@ use Rattle.kept_trace.specs.Keeping.{stays_of, IsGivenBy, keeps}
 use Rattle.kept_trace.specs.Ready.{kept_looks, is_anew}
 use Rattle.kept_trace.specs.Sharing.{IsToldAs}
 use Rattle.kept_trace.specs.declared.kept.Kept.{Kept}
-use Rattle.kept_trace.proofs.Telling.{with_told, told_so, if_each}
+use Rattle.kept_trace.proofs.Telling.{answers_always, with_told, told_so, if_each}
 
 pub same_stays : {F : Type 0} (old new : Lookup F) (steps next : ℕ) (kept : Kept) → IsSameLookup old new
     → stays_of new steps next kept ≡ stays_of old steps next kept

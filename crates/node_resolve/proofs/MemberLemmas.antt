@@ -1,16 +1,20 @@
 -- Members of the objects in a record, and the key that is taken.
---     any_key, all_keys            tests of the names, by tests of the pairs
 --     mixed_is                     some names pass and some don't
+--     no_field, dot_at             the value with a name, by where the name stands
+--     distinct_in                  the names of an object whose values all have distinct ones
 --     field_passed, field_here     the value with a name, member by member
 --     none_first, target_is        the key that is taken
 use Rattle.std.proofs.Common.{◌≡◌, ◌&&◌, ◌||◌, ℕ, zero, suc, Bool, true, false, not, List, [], ◌∷◌, Option, Some, None, refl, sym, ap, ◌∙◌, subst}
-use Rattle.std.specs.Prelude.{slice_get, bytes_eq, MatchOption}
+use Rattle.std.specs.Prelude.{◌≢◌, slice_get, bytes_eq, codes, MatchOption}
+use Rattle.std.proofs.lemmas.Slice.Eq.{bytes_eq-Decides}
+use Rattle.std.proofs.lemmas.List.Elements.{All-cons, All-nil}
+use Rattle.node_spec.specs.PackageExportsResolve.{is_dotted, has_dotted, is_mixed}
 use Rattle.std.specs.List.{list_any, list_all, IsDistinct}
 use Rattle.std.proofs.lemmas.Bool.{cond-true, cond-false}
 use Rattle.std.proofs.lemmas.Cmp.{nat_list_eq_equiv}
 use Rattle.std.proofs.lemmas.Option.{same_Some, none-some, slice_get_past}
 use Rattle.json_spec.proofs.NewNames.{IsNewName}
-use Rattle.json_spec.specs.Value.{AreDistinct, names_of}
+use Rattle.json_spec.specs.Value.{AreDistinct, HasDistinctNames, Json, Members, a_null, an_object, names_of}
 use Rattle.ordered_json.specs.Shown.{json_of, members_of}
 use Rattle.ordered_json.specs.declared.value.Value.{Value}
 use Rattle.exports_patterns.proofs.KeyLemmas.{key_stands, no_key}
@@ -19,7 +23,7 @@ use Rattle.exports_patterns.specs.declared.pattern_keys.Match.{Match}
 use Rattle.node_spec.proofs.KeyChoice.{finds_key}
 use Rattle.node_spec.proofs.PatternChoice.{one_choice}
 use Rattle.node_spec.specs.PatternKeyCompare.{KeyFound, first_key, pattern_match}
-use Rattle.node_spec.specs.PatternKeys.{KeyMatch, IsChoice, MatchesNone}
+use Rattle.node_spec.specs.PatternKeys.{HasNoStar, KeyMatch, IsChoice, MatchesNone}
 use Rattle.node_spec.specs.Records.{field}
 use Rattle.node_resolve.specs.Members.{IsTarget}
 
@@ -28,24 +32,23 @@ Pairs = List (List ℕ × Value)
 
 -- ---- tests of names
 
-pub any_key : (test : List ℕ → Bool) (pairs : Pairs)
-    → list_any (λ (pair : List ℕ × Value). test pair.0) pairs ≡ list_any test (names_of (members_of pairs))
-any_key test [] = refl
-any_key test (pair ∷ pairs) = ap (λ b. test pair.0 || b) (any_key test pairs)
-
-pub all_keys : (test : List ℕ → Bool) (pairs : Pairs)
-    → list_all (λ (pair : List ℕ × Value). test pair.0) pairs ≡ list_all test (names_of (members_of pairs))
-all_keys test [] = refl
-all_keys test (pair ∷ pairs) = ap (λ b. test pair.0 && b) (all_keys test pairs)
-
 not_both : (a b : Bool) → (not a || not b) ≡ not (a && b)
 not_both true b = refl
 not_both false b = refl
 
-pub not_all : (test : List ℕ → Bool) (keys : List (List ℕ)) → list_any (λ key. not (test key)) keys ≡ not (list_all test keys)
+not_all : (test : List ℕ → Bool) (keys : List (List ℕ)) → list_any (λ key. not (test key)) keys ≡ not (list_all test keys)
 not_all test [] = refl
 not_all test (key ∷ keys) =
     ap (λ b. not (test key) || b) (not_all test keys) ∙ not_both (test key) (list_all test keys)
+
+pub mixed_is : (members : Members) (has are : Bool) → has ≡ has_dotted members → are ≡ list_all is_dotted (names_of members)
+    → (has && not are) ≡ is_mixed members
+mixed_is members has are h a = (λ i. h i && not (a i)) ∙ ap (λ b. has_dotted members && b) (sym (not_all is_dotted (names_of members)))
+
+-- ---- an object's own names
+
+pub distinct_in : (value : Json) (members : Members) → value ≡ an_object members → HasDistinctNames value → AreDistinct members
+distinct_in value members e distinct = (subst HasDistinctNames e distinct).0
 
 -- ---- the value with a name
 
@@ -77,6 +80,31 @@ field_at (other ∷ pairs) (suc i) pair d e =
     (nat_list_eq_equiv.symm pair.0 other.0 ∙ new_at other.0 pairs i pair d.0 e)
     ∙ field_at pairs i pair d.1 e
 
+-- where no name is this one, there is no value
+pub no_field : (name : List ℕ) (pairs : Pairs) → ((i : ℕ) → slice_get (names_of (members_of pairs)) i ≡ Some name → ⊥)
+    → field name (members_of pairs) ≡ a_null
+no_field name [] none = refl
+no_field name (pair ∷ pairs) none =
+    field_passed name pair pairs (differs (bytes_eq name pair.0) refl)
+    ∙ no_field name pairs (λ i e. none (suc i) e)
+  where
+    differs : (b : Bool) → bytes_eq name pair.0 ≡ b → bytes_eq name pair.0 ≡ false
+    differs true e = absurd (none zero (ap Some (sym ((bytes_eq-Decides name pair.0).0 e))))
+    differs false e = e
+
+name_at : (pairs : Pairs) (i : ℕ) (pair : List ℕ × Value) (key : List ℕ) → slice_get pairs i ≡ Some pair
+    → slice_get (names_of (members_of pairs)) i ≡ Some key → key ≡ pair.0
+name_at pairs i pair key e f = same_Some _ _ (sym f ∙ key_stands pairs i pair e)
+
+pub dot_has_no_star : HasNoStar (codes ".")
+dot_has_no_star = All-cons (λ b. b ≢ 42) 46 [] (λ e. cc) (All-nil (λ b. b ≢ 42))
+
+pub dot_at : (pairs : Pairs) (i : ℕ) (pair : List ℕ × Value) → AreDistinct (members_of pairs)
+    → slice_get (names_of (members_of pairs)) i ≡ Some (codes ".") → slice_get pairs i ≡ Some pair
+    → field (codes ".") (members_of pairs) ≡ json_of pair.1
+dot_at pairs i pair distinct name e =
+    ap (λ k. field k (members_of pairs)) (name_at pairs i pair (codes ".") e name) ∙ field_at pairs i pair distinct e
+
 -- ---- the key that is taken
 
 first_by : (asked : List ℕ) (keys : List (List ℕ)) (key : List ℕ) (match : KeyMatch) (first : Option KeyFound)
@@ -92,10 +120,6 @@ none_by : (asked : List ℕ) (keys : List (List ℕ)) (first : Option KeyFound)
     → MatchesNone keys asked → first ≡ None
 none_by asked keys None is none = refl
 none_by asked keys (Some chosen) is none = absurd (none chosen.key chosen.found is.among is.matches)
-
-name_at : (pairs : Pairs) (i : ℕ) (pair : List ℕ × Value) (key : List ℕ) → slice_get pairs i ≡ Some pair
-    → slice_get (names_of (members_of pairs)) i ≡ Some key → key ≡ pair.0
-name_at pairs i pair key e f = same_Some _ _ (sym f ∙ key_stands pairs i pair e)
 
 pub not_there : (pairs : Pairs) (i : ℕ) (key : List ℕ)
     → slice_get (names_of (members_of pairs)) i ≡ Some key → slice_get pairs i ≡ None → ⊥

@@ -9,7 +9,6 @@ mod fault;
 mod file_urls;
 mod found;
 mod legacy_main_resolve;
-mod members;
 mod package_exports_resolve;
 mod package_imports_exports_resolve;
 mod package_imports_resolve;

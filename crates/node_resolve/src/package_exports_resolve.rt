@@ -1,22 +1,27 @@
 //! What a package exports (Node.js, ECMAScript modules: PACKAGE_EXPORTS_RESOLVE).
-ghost use Rattle.std.specs.Prelude.{◌≡◌, codes};
+ghost use Rattle.std.specs.Prelude.{◌≡◌, ◌&&◌, not, codes};
 ghost use Rattle.node_spec.specs.Records.{field};
-ghost use Rattle.json_spec.specs.Value.{HasDistinctNames, AreDistinct};
+ghost use Rattle.json_spec.specs.Value.{AreDistinct};
+ghost use Rattle.exports_patterns.specs.Found.{keys_of};
+ghost use Rattle.exports_patterns.specs.Indexes.{IsIndex};
+ghost use Rattle.package_record.specs.Indexed.{IsSubpaths};
 ghost use Rattle.node_spec.specs.PackageExportsResolve.{exported, export_paths, main_export};
 ghost use Rattle.node_spec.specs.PackageExportsResolve.{main_target, is_mixed_object, subpath_export};
 ghost use Rattle.node_spec.specs.PackageImportsExportsResolve.{by_key};
 ghost use Rattle.ordered_json.specs.Lists.{pairs_of};
 ghost use Rattle.ordered_json.specs.Shown.{json_of, members_of};
 ghost use Rattle.package_lookup.specs.Responses.{itself};
+ghost use Rattle.node_resolve.specs.Members.{found_field};
 ghost use Rattle.node_resolve.specs.Responses.{Gives};
 
 use crate::NodeFault;
-use crate::members::{are_dotted, field, has_dotted, is_mixed};
 use crate::package_imports_exports_resolve::target_of;
 use crate::package_target_resolve::export_target;
 use condition_match::Conditions;
+use exports_patterns::{Keys, place_of};
 use node_spec::Cause;
 use ordered_json::{Members, Value};
+use package_record::{Index, Subpaths};
 use std::alloc::Global;
 use tree_model::Path;
 use web_url::FileUrl;
@@ -26,11 +31,11 @@ pub fn exported(
     alloc: Global,
     package_folder: &Path,
     subpath: &str,
-    exports: &Value,
+    exports: &Subpaths,
     conditions: &Conditions,
 ) -> Result<FileUrl, NodeFault>
-    requires { HasDistinctNames (json_of exports.now) }
-    ensures { Gives itself (exported conditions.now package_folder.now subpath.now (json_of exports.now)) result }
+    requires { IsSubpaths exports.now }
+    ensures { Gives itself (exported conditions.now package_folder.now subpath.now (json_of exports.now.value)) result }
 {
     if is_mixed_object(exports) {
         return Err(NodeFault::Refused(Cause::InvalidConfig));
@@ -42,11 +47,12 @@ pub fn exported(
     }
 }
 
-fn is_mixed_object(exports: &Value) -> bool
-    ensures { result ≡ is_mixed_object (json_of exports.now) }
+fn is_mixed_object(exports: &Subpaths) -> bool
+    requires { IsSubpaths exports.now }
+    ensures { result ≡ is_mixed_object (json_of exports.now.value) }
 {
-    match exports {
-        Value::Object(members) => is_mixed(members),
+    match &exports.value {
+        Value::Object(_) => is_mixed(&exports.index),
         Value::Null => false,
         Value::Bool(_) => false,
         Value::Number(_) => false,
@@ -55,26 +61,41 @@ fn is_mixed_object(exports: &Value) -> bool
     }
 }
 
+/// Whether some keys begin with `.` and some don't.
+fn is_mixed(index: &Index) -> bool
+    ensures { result ≡ (index.now.has_dotted && not index.now.are_dotted) }
+{
+    index.has_dotted && !index.are_dotted
+}
+
 /// The URL for the subpath `.`.
 fn main_export(
     alloc: Global,
     package_folder: &Path,
-    exports: &Value,
+    exports: &Subpaths,
     conditions: &Conditions,
 ) -> Result<FileUrl, NodeFault>
-    ensures { Gives itself (main_export conditions.now package_folder.now (json_of exports.now)) result }
+    requires { IsSubpaths exports.now }
+    ensures { Gives itself (main_export conditions.now package_folder.now (json_of exports.now.value)) result }
 {
-    match exports {
+    let value = &exports.value;
+    match value {
         Value::Null => Err(NodeFault::Refused(Cause::NotExported)),
         Value::Bool(_) => Err(NodeFault::Refused(Cause::NotExported)),
         Value::Number(_) => Err(NodeFault::Refused(Cause::NotExported)),
-        Value::Text(_) => export_target(alloc, package_folder, exports, None, conditions),
-        Value::List(_) => export_target(alloc, package_folder, exports, None, conditions),
+        Value::Text(_) => export_target(alloc, package_folder, value, None, conditions),
+        Value::List(_) => export_target(alloc, package_folder, value, None, conditions),
         Value::Object(members) => {
-            if has_dotted(members) {
-                dot_export(alloc, package_folder, members, conditions)
+            if exports.index.has_dotted {
+                dot_export(
+                    alloc,
+                    package_folder,
+                    members,
+                    &exports.index.keys,
+                    conditions,
+                )
             } else {
-                export_target(alloc, package_folder, exports, None, conditions)
+                export_target(alloc, package_folder, value, None, conditions)
             }
         }
     }
@@ -85,14 +106,32 @@ fn dot_export(
     alloc: Global,
     package_folder: &Path,
     members: &Members,
+    keys: &Keys,
     conditions: &Conditions,
 ) -> Result<FileUrl, NodeFault>
+    requires distinct { AreDistinct (members_of (pairs_of members.now)) }
+    requires indexed { IsIndex (keys_of members.now) keys.now }
     ensures { Gives itself (main_target conditions.now package_folder.now
         (field (codes ".") (members_of (pairs_of members.now)))) result }
 {
-    match field(members, ".") {
+    match dot_of(members, keys) {
         None => export_target(alloc, package_folder, &Value::Null, None, conditions),
         Some(target) => export_target(alloc, package_folder, target, None, conditions),
+    }
+}
+
+/// The value of the member `.`.
+fn dot_of<'a>(members: &'a Members, keys: &Keys) -> Option<&'a Value>
+    requires distinct { AreDistinct (members_of (pairs_of members.now)) }
+    requires indexed { IsIndex (keys_of members.now) keys.now }
+    ensures { field (codes ".") (members_of (pairs_of members.now)) ≡ found_field result }
+{
+    match place_of(keys, members, ".") {
+        None => None,
+        Some(place) => match members.at(place) {
+            None => None,
+            Some((_, target)) => Some(target),
+        },
     }
 }
 
@@ -101,16 +140,23 @@ fn subpath_export(
     alloc: Global,
     package_folder: &Path,
     subpath: &str,
-    exports: &Value,
+    exports: &Subpaths,
     conditions: &Conditions,
 ) -> Result<FileUrl, NodeFault>
-    requires { HasDistinctNames (json_of exports.now) }
-    ensures { Gives itself (subpath_export conditions.now package_folder.now subpath.now (json_of exports.now)) result }
+    requires { IsSubpaths exports.now }
+    ensures { Gives itself (subpath_export conditions.now package_folder.now subpath.now (json_of exports.now.value)) result }
 {
-    match exports {
+    match &exports.value {
         Value::Object(members) => {
-            if are_dotted(members) {
-                export_at(alloc, package_folder, subpath, members, conditions)
+            if exports.index.are_dotted {
+                export_at(
+                    alloc,
+                    package_folder,
+                    subpath,
+                    members,
+                    &exports.index.keys,
+                    conditions,
+                )
             } else {
                 Err(NodeFault::Refused(Cause::NotExported))
             }
@@ -129,14 +175,17 @@ fn export_at(
     package_folder: &Path,
     subpath: &str,
     members: &Members,
+    keys: &Keys,
     conditions: &Conditions,
 ) -> Result<FileUrl, NodeFault>
-    requires { AreDistinct (members_of (pairs_of members.now)) }
+    requires distinct { AreDistinct (members_of (pairs_of members.now)) }
+    requires indexed { IsIndex (keys_of members.now) keys.now }
     ensures { Gives itself (by_key (export_paths conditions.now package_folder.now (members_of (pairs_of members.now)))
         subpath.now) result }
 {
-    match target_of(members, subpath) {
-        None => Err(NodeFault::Refused(Cause::NotExported)),
-        Some((target, star)) => export_target(alloc, package_folder, target, star, conditions),
+    match target_of(alloc, members, keys, subpath) {
+        Err(_) => Err(NodeFault::Memory),
+        Ok(None) => Err(NodeFault::Refused(Cause::NotExported)),
+        Ok(Some((target, star))) => export_target(alloc, package_folder, target, star, conditions),
     }
 }

@@ -1,6 +1,9 @@
 //! A specifier that begins with `#` (Node.js, ECMAScript modules: PACKAGE_IMPORTS_RESOLVE).
 ghost use Rattle.std.specs.Prelude.{◌≡◌, Some, ◌||◌, codes, bytes_eq};
-ghost use Rattle.json_spec.specs.Value.{HasDistinctNames, AreDistinct};
+ghost use Rattle.json_spec.specs.Value.{AreDistinct};
+ghost use Rattle.exports_patterns.specs.Found.{keys_of};
+ghost use Rattle.exports_patterns.specs.Indexes.{IsIndex};
+ghost use Rattle.package_record.specs.Indexed.{IsSubpaths};
 ghost use Rattle.url_spec.specs.Specifiers.{begins, ends_in_slash};
 ghost use Rattle.node_spec.specs.PackageImportsExportsResolve.{by_key};
 ghost use Rattle.node_spec.specs.PackageImportsResolve as spec;
@@ -17,9 +20,11 @@ use crate::fault::behind;
 use crate::package_imports_exports_resolve::target_of;
 use crate::texts::{begins, ends_in_slash};
 use condition_match::Conditions;
+use exports_patterns::Keys;
 use node_spec::Cause;
 use ordered_json::{Members, Value};
 use package_lookup::{Lookup, record_of, scope_of};
+use package_record::Subpaths;
 use std::alloc::Global;
 use tree_model::{Folder, Path};
 use web_url::FileUrl;
@@ -80,17 +85,25 @@ fn imported<F: Folder>(
     lookup: &mut Lookup<'_, F>,
     scope: &Path,
     text: &str,
-    imports: &Value,
+    imports: &Subpaths,
     conditions: &Conditions,
 ) -> Result<FileUrl, NodeFault>
-    requires { HasDistinctNames (json_of imports.now) }
+    requires { IsSubpaths imports.now }
     ensures answered { Answered (state_of F.state lookup.old)
-        (spec.imported conditions.now scope.now text.now (json_of imports.now))
+        (spec.imported conditions.now scope.now text.now (json_of imports.now.value))
         (responded itself result) (state_of F.state lookup.new) }
     ensures same { IsSameLookup lookup.old lookup.new }
 {
-    match imports {
-        Value::Object(members) => { import_at(alloc, lookup, scope, text, members, conditions) }
+    match &imports.value {
+        Value::Object(members) => import_at(
+            alloc,
+            lookup,
+            scope,
+            text,
+            members,
+            &imports.index.keys,
+            conditions,
+        ),
         Value::Null => Err(NodeFault::Refused(Cause::ImportNotDefined)),
         Value::Bool(_) => Err(NodeFault::Refused(Cause::ImportNotDefined)),
         Value::Number(_) => Err(NodeFault::Refused(Cause::ImportNotDefined)),
@@ -106,16 +119,21 @@ fn import_at<F: Folder>(
     scope: &Path,
     text: &str,
     members: &Members,
+    keys: &Keys,
     conditions: &Conditions,
 ) -> Result<FileUrl, NodeFault>
-    requires { AreDistinct (members_of (pairs_of members.now)) }
+    requires distinct { AreDistinct (members_of (pairs_of members.now)) }
+    requires indexed { IsIndex (keys_of members.now) keys.now }
     ensures answered { Answered (state_of F.state lookup.old)
         (by_key (spec.import_paths conditions.now scope.now (members_of (pairs_of members.now))) text.now)
         (responded itself result) (state_of F.state lookup.new) }
     ensures same { IsSameLookup lookup.old lookup.new }
 {
-    match target_of(members, text) {
-        None => Err(NodeFault::Refused(Cause::ImportNotDefined)),
-        Some((target, star)) => import_target(alloc, lookup, scope, target, star, conditions),
+    match target_of(alloc, members, keys, text) {
+        Err(_) => Err(NodeFault::Memory),
+        Ok(None) => Err(NodeFault::Refused(Cause::ImportNotDefined)),
+        Ok(Some((target, star))) => {
+            import_target(alloc, lookup, scope, target, star, conditions)
+        }
     }
 }

@@ -1,11 +1,11 @@
 //! A bare specifier from a folder (Node.js, ECMAScript modules: PACKAGE_RESOLVE).
 ghost use Rattle.std.specs.Prelude.{◌≡◌, Some, option_map};
-ghost use Rattle.json_spec.specs.Value.{HasDistinctNames};
 ghost use Rattle.node_spec.specs.PackageResolve as spec;
 ghost use Rattle.ordered_json.specs.Shown.{json_of};
 ghost use Rattle.package_lookup.specs.Answered.{Answered};
 ghost use Rattle.package_lookup.specs.Lookups.{state_of, IsSameLookup};
 ghost use Rattle.package_lookup.specs.Responses.{itself};
+ghost use Rattle.package_record.specs.Indexed.{IsSubpaths};
 ghost use Rattle.package_record.specs.Shown.{record_shown};
 ghost use Rattle.node_resolve.specs.Asked.{subpath_of, IsSubpath};
 ghost use Rattle.node_resolve.specs.Responses.{responded, Gives};
@@ -142,14 +142,14 @@ fn resolve_by_record<F: Folder>(
     of_package: &Package,
     conditions: &Conditions,
 ) -> Result<FileUrl, NodeFault>
-    requires names { HasDistinctNames (json_of of_package.now.exports) }
+    requires names { IsSubpaths of_package.now.exports }
     requires subpath { IsSubpath subpath.now }
     ensures answered { Answered (state_of F.state lookup.old)
         (spec.by_record conditions.now package_folder.now subpath.now (Some (record_shown of_package.now)))
         (responded itself result) (state_of F.state lookup.new) }
     ensures same { IsSameLookup lookup.old lookup.new }
 {
-    if !is_null(&of_package.exports) {
+    if !is_null(&of_package.exports.value) {
         return exported(
             alloc,
             package_folder,

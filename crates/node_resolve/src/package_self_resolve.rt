@@ -1,6 +1,6 @@
 //! A package that names itself (Node.js, ECMAScript modules: PACKAGE_SELF_RESOLVE).
 ghost use Rattle.std.specs.Prelude.{◌≡◌, ◌&&◌, not, Some};
-ghost use Rattle.json_spec.specs.Value.{HasDistinctNames};
+ghost use Rattle.package_record.specs.Indexed.{IsSubpaths};
 ghost use Rattle.package_record.specs.Shown.{record_shown};
 ghost use Rattle.node_spec.specs.PackageSelfResolve.{has_name, is_null};
 ghost use Rattle.ordered_json.specs.Shown.{json_of};
@@ -69,7 +69,7 @@ fn self_in(
     of_scope: &Package,
     conditions: &Conditions,
 ) -> Result<Option<FileUrl>, NodeFault>
-    requires { HasDistinctNames (json_of of_scope.now.exports) }
+    requires { IsSubpaths of_scope.now.exports }
     ensures { Gives itself (named_itself_in conditions.now scope.now (subpath_of asked.now)
         (Some (record_shown of_scope.now))) result }
 {
@@ -90,9 +90,9 @@ fn self_in(
 
 /// Whether a package has this name, and exports.
 fn names_itself(of_scope: &Package, name: &str) -> bool
-    ensures { result ≡ (has_name of_scope.now.name name.now && not (is_null (json_of of_scope.now.exports))) }
+    ensures { result ≡ (has_name of_scope.now.name name.now && not (is_null (json_of of_scope.now.exports.value))) }
 {
-    has_name(of_scope, name) && !is_null(&of_scope.exports)
+    has_name(of_scope, name) && !is_null(&of_scope.exports.value)
 }
 
 fn has_name(of_scope: &Package, name: &str) -> bool

@@ -1,12 +1,11 @@
 -- What was read of a package.json that is held.
 --     outcome_of reading           the record, or the reason for having none
---     IsNamedApart found         the keys of each object in `exports` and `imports` are distinct
+--     IsNamedApart found         the keys of each object in `exports` and `imports` are distinct, and their own indexed
 --     IsReadingOf look reading     it was read from the bytes of this look
 --     AreReadingsOf look reading   the same, where it was read
 use Rattle.std.specs.Prelude.{◌≡◌, ℕ, List, Option, Result, Ok, Err, ⊤, IfSome}
-use Rattle.json_spec.specs.Value.{HasDistinctNames}
-use Rattle.ordered_json.specs.Shown.{json_of}
 use Rattle.node_spec.specs.Records.{Record, RecordFault, InvalidRecord, DeepRecord, ReadsRecord}
+use Rattle.package_record.specs.Indexed.{IsSubpaths}
 use Rattle.package_record.specs.Shown.{record_shown}
 use Rattle.package_record.specs.declared.package_json.Package.{Package}
 use Rattle.tree_spec.specs.declared.Look.{Look}
@@ -20,8 +19,8 @@ outcome_of NotWellFormed = Err InvalidRecord
 outcome_of TooDeep = Err DeepRecord
 
 pub record IsNamedApart (found : Package) : Type 0 where
-  pub exports : HasDistinctNames (json_of found.exports)
-  pub imports : HasDistinctNames (json_of found.imports)
+  pub exports : IsSubpaths found.exports
+  pub imports : IsSubpaths found.imports
 
 abbrev pub AreNamedApart : Reading → Type 0
 AreNamedApart (Found shared) = IsNamedApart shared.value

@@ -3,6 +3,8 @@
 
 mod fields;
 mod package_json;
+mod subpaths;
 
 pub use node_spec::PackageKind;
 pub use package_json::{Package, PackageFault, read_package};
+pub use subpaths::{Index, Subpaths};

@@ -1,15 +1,18 @@
-ghost use Rattle.std.specs.Prelude.{◌≡◌, MatchOption, MatchResult, Err};
+ghost use Rattle.std.specs.Prelude.{◌≡◌, IfOk, MatchOption, MatchResult, Err};
 ghost use Rattle.json_spec.specs.Value.{an_object, Members as Spec};
 ghost use Rattle.node_spec.specs.Records.{InvalidRecord, after_mark, kind_of, record_in, record_of};
 ghost use Rattle.node_spec.specs.Records.{text_in};
 ghost use Rattle.ordered_json.specs.Lists.{pairs_of};
 ghost use Rattle.ordered_json.specs.Shown.{json_of, members_of};
 ghost use Rattle.package_record.specs.Fields.{HoldsFields};
+ghost use Rattle.package_record.specs.Indexed.{IsIndexOf};
 ghost use Rattle.package_record.specs.Shown.{record_shown, IsReadFrom, IsNoRecord};
 
 use crate::fields::{Fields, fields_of};
+use crate::subpaths::{Subpaths, subpaths_of};
 use node_spec::PackageKind;
 use ordered_json::{JsonFault, Members, Text, Value, read};
+use shared_types::Memory;
 use std::alloc::Global;
 
 /// U+FEFF in UTF-8, the byte order mark.
@@ -24,10 +27,10 @@ pub struct Package {
     pub kind: PackageKind,
     /// The `main`, where it is a string.
     pub main: Option<Text>,
-    /// The `exports` as they stand, null where absent.
-    pub exports: Value,
-    /// The `imports` as they stand, null where absent.
-    pub imports: Value,
+    /// The `exports`.
+    pub exports: Subpaths,
+    /// The `imports`.
+    pub imports: Subpaths,
 }
 
 /// Why the bytes of a package.json have no record.
@@ -48,7 +51,10 @@ pub fn read_package(alloc: Global, bytes: &[u8]) -> Result<Package, PackageFault
     match read(alloc, behind_mark(bytes)) {
         Ok(value) => match members_in(value) {
             Some(members) => match fields_of(members) {
-                Ok(fields) => Ok(package_of(fields)),
+                Ok(fields) => match package_of(alloc, fields) {
+                    Ok(package) => Ok(package),
+                    Err(_) => Err(PackageFault::Memory),
+                },
                 Err(_) => Err(PackageFault::Memory),
             },
             None => Err(PackageFault::InvalidConfig),
@@ -78,16 +84,26 @@ fn members_in(value: Value) -> Option<Members>
     }
 }
 
-fn package_of(fields: Fields) -> Package
-    ensures { (members : Spec) → HoldsFields fields members → record_shown result ≡ record_of members }
+fn package_of(alloc: Global, fields: Fields) -> Result<Package, Memory>
+    ensures shown { IfOk result (λ read. (members : Spec) → HoldsFields fields members
+        → record_shown read ≡ record_of members) }
+    ensures indexed { IfOk result (λ read. IsIndexOf read.exports.value read.exports.index
+        × IsIndexOf read.imports.value read.imports.index) }
 {
-    Package {
-        name: text_of(fields.name),
-        kind: kind_named(text_of(fields.kind)),
-        main: text_of(fields.main),
-        exports: fields.exports,
-        imports: fields.imports,
-    }
+    let Fields {
+        name,
+        kind,
+        main,
+        exports,
+        imports,
+    } = fields;
+    Ok(Package {
+        name: text_of(name),
+        kind: kind_named(text_of(kind)),
+        main: text_of(main),
+        exports: subpaths_of(alloc, exports)?,
+        imports: subpaths_of(alloc, imports)?,
+    })
 }
 
 fn text_of(value: Value) -> Option<Text>

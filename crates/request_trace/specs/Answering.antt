@@ -4,8 +4,8 @@
 --     all_fresh                     each question is
 --     Keeping                       of which questions an answer is kept, by what stands at each path
 --     all_kept                      none needs to be
---     told_by is_fresh sights       the answers by what stands at each path, the looks of each question, and which are
---                                   fresh
+--     told_by is_fresh sights       the answers by what stands at each path, the looks of each question up to the one
+--                                   that a limit stops, and which are fresh
 --     ToldBy is_fresh folder known told      these are the answers so, as far as looks tell
 --     TakesStep is_fresh before question taken spent      no step, or one if the question is fresh, by all that looks
 --                                                         tell
@@ -17,19 +17,19 @@
 --     answers_of is_fresh keeping stays steps looks      what answers, in this state, behind so many steps
 use Rattle.std.specs.Prelude.{◌≡◌, ◌≤◌, ◌+◌, ℕ, Bool, true, List, [], ◌∷◌, length, filter, Some, Result, Ok, Err}
 use Rattle.std.specs.Prelude.{⊤, IfOk, IfSome}
-use Rattle.tree_spec.specs.LookAskings.{Sights, looks}
-use Rattle.tree_spec.specs.LookLimits.{Trail}
+use Rattle.tree_spec.specs.LookAskings.{Sights}
+use Rattle.tree_spec.specs.LookLimits.{Trail, begun, look_limits, limited}
 use Rattle.tree_spec.specs.States.{FolderState}
 use Rattle.tree_spec.specs.Trees.{Tree}
 use Rattle.trace_spec.specs.declared.TraceFault.{TraceFault}
 use Rattle.trace_spec.specs.declared.TraceFault.TheVariants.{Limit, ReadFault, Memory}
-use Rattle.trace_spec.specs.Questions.{Question, Answer, put, answers, always}
+use Rattle.trace_spec.specs.Questions.{Question, Answer, put, answers}
 use Rattle.package_lookup.specs.declared.known.Known.{Known}
 use Rattle.package_lookup.specs.Looked.{Sees}
 use Rattle.package_lookup.specs.declared.lookup.Lookup.{Lookup}
 use Rattle.package_lookup.specs.Answered.{State}
 use Rattle.package_lookup.specs.Responses.{Response, given, fails, passes, not_read, no_memory, never}
-use Rattle.trace_walk.specs.Meeting.{Told, AnswererState}
+use Rattle.trace_walk.specs.Meeting.{Told, asked_to_end, AnswererState}
 
 -- no call comes to `never`
 abbrev pub result_by : {X : Type 0} → Response X → Result X TraceFault
@@ -55,8 +55,7 @@ abbrev pub told_by : Freshness → Sights → Told Trail Question Answer
 told_by is_fresh sights =
     record {
       answers = answers sights;
-      always = always sights;
-      looks = λ question. looks sights (put question);
+      looks = λ trail question. asked_to_end (limited look_limits sights) (begun trail) (put question);
       fresh = is_fresh sights;
       stands = sights;
     }

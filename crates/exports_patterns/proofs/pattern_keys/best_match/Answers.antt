@@ -1,21 +1,15 @@
-use Rattle.std.proofs.Common.{take, sym, subst, arith}
-use Rattle.ordered_json.specs.Lists.{pairs_of}
-use Rattle.exports_patterns.specs.Found.{keys_of, Finds}
-use Rattle.exports_patterns.proofs.KeyLemmas.{all_found, next_key, length_before}
+use Rattle.exports_patterns.specs.Found.{keys_of, Finds, HasSpan}
+use Rattle.exports_patterns.specs.Indexes.{IsKeyIndex}
+use Rattle.std.specs.Prelude.{IfSome}
+use Rattle.exports_patterns.proofs.ChoiceLemmas.{at_names}
 use Rattle.exports_patterns.proofs.pattern_keys.best_match.Goals as goal
 
-pub loop-index-preserved : goal.loop-index-preserved
-loop-index-preserved c =
-    let keys = keys_of c.args.keys.now in
-    let index = c.loop-index.index in
-    let name = c.in-Some.name.now in
-    record {
-      found = subst (λ done. Finds done c.args.key.now c.with_key-best.result) (sym (next_key keys index name c.in-Some.ensures))
-          (c.with_key-best.ensures.found (take index keys) (length_before keys index name c.in-Some.ensures) c.loop-index.invariant.found);
-      span = c.with_key-best.ensures.span c.loop-index.invariant.span;
-    }
+pub returns-in-Some-clause-choice : goal.returns-in-Some-clause-choice
+returns-in-Some-clause-choice c =
+    at_names (λ names. IsKeyIndex names c.in-Some.index) (λ names. Finds names c.args.asked.now) c.best_indexed.result
+    (keys_of c.args.members.now) (rw c.in-Some.is at c.requires) c.best_indexed.ensures.choice
 
-pub returns-after-loop-index-clause-choice : goal.returns-after-loop-index-clause-choice
-returns-after-loop-index-clause-choice c =
-    all_found (pairs_of c.args.keys.now) c.loop-index.index c.args.key.now c.loop-index.best
-    (omega (arith, c.len-index-end.ensures, c.loop-index-test.false)) c.loop-index.invariant.found
+pub returns-in-Some-clause-span : goal.returns-in-Some-clause-span
+returns-in-Some-clause-span c =
+    at_names (λ names. IsKeyIndex names c.in-Some.index) (λ names found. IfSome found (HasSpan c.args.asked.now)) c.best_indexed.result
+    (keys_of c.args.members.now) (rw c.in-Some.is at c.requires) c.best_indexed.ensures.span

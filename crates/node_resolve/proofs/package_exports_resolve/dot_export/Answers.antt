@@ -10,4 +10,4 @@ pub returns-in-None : goal.returns-in-None
 returns-in-None c =
     gives_as itself _ _ c.export_target.result
     (ap (main_target c.args.conditions.now c.args.package_folder.now)
-    (c.field.ensures ∙ (ap found_field c.in-None.is ∙ sym json_of_null))) c.export_target.ensures
+    (c.dot_of.ensures ∙ (ap found_field c.in-None.is ∙ sym json_of_null))) c.export_target.ensures

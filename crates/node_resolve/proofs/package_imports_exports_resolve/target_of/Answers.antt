@@ -3,17 +3,23 @@ use Rattle.ordered_json.specs.Lists.{pairs_of}
 use Rattle.node_resolve.proofs.MemberLemmas.{none_first, not_there, target_is}
 use Rattle.node_resolve.proofs.package_imports_exports_resolve.target_of.Goals as goal
 
-pub returns-in-None : goal.returns-in-None
-returns-in-None c =
-    none_first (pairs_of c.args.members.now) c.args.asked.now (rw c.in-None.is at c.best_match.ensures.choice)
+pub part_of-requires : goal.part_of-requires
+part_of-requires c =
+    rw (c.in-Ok-Some.is, c.in-Ok-Some.field-0-is) at c.best_match.ensures.span
+
+pub returns-in-Ok-None : goal.returns-in-Ok-None
+returns-in-Ok-None c =
+    let none = rw (c.in-Ok-None.is, c.in-Ok-None.field-0-is) at c.best_match.ensures.choice in
+    none_first (pairs_of c.args.members.now) c.args.asked.now none
 
 pub returns-in-None-at : goal.returns-in-None-at
 returns-in-None-at c =
-    let found = rw c.in-Some.is at c.best_match.ensures.choice in
-    absurd (not_there (pairs_of c.args.members.now) c.in-Some.found.index found.key found.stands
+    let found = rw (c.in-Ok-Some.is, c.in-Ok-Some.field-0-is) at c.best_match.ensures.choice in
+    absurd (not_there (pairs_of c.args.members.now) c.in-Ok-Some.found.index found.key found.stands
     (sym (rw c.in-None-at.is at c.at.ensures)))
 
 pub returns-in-Some-at : goal.returns-in-Some-at
 returns-in-Some-at c =
-    target_is (pairs_of c.args.members.now) c.args.asked.now c.in-Some.found _ _ c.requires
-    (rw c.in-Some.is at c.best_match.ensures.choice) (sym (rw c.in-Some-at.is at c.at.ensures)) c.part_of.ensures
+    let choice = rw (c.in-Ok-Some.is, c.in-Ok-Some.field-0-is) at c.best_match.ensures.choice in
+    target_is (pairs_of c.args.members.now) c.args.asked.now c.in-Ok-Some.found _ _ c.requires.distinct
+    choice (sym (rw c.in-Some-at.is at c.at.ensures)) c.part_of.ensures

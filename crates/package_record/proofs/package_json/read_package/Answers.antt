@@ -6,11 +6,16 @@ use Rattle.package_record.specs.Shown.{record_shown}
 use Rattle.package_record.proofs.RecordLemmas.{record_from, object_record, no_object}
 use Rattle.package_record.proofs.package_json.read_package.Goals as goal
 
-pub returns-in-Ok-fields_of : goal.returns-in-Ok-fields_of
-returns-in-Ok-fields_of c =
-    let reads : ReadsRecord c.args.bytes.now (Ok (record_shown c.package_of.result)) = object_record _ _ _ _ _ c.behind_mark.ensures (reads_json c.in-Ok.ensures) c.in-Some.ensures (c.package_of.ensures _ c.in-Ok-fields_of.ensures) in
-    let apart = record_names_are_distinct c.args.bytes.now (Ok (record_shown c.package_of.result)) reads in
-    record { reads = reads; distinct = apart.0; distinct_imports = apart.1 }
+pub returns-in-Ok-package_of : goal.returns-in-Ok-package_of
+returns-in-Ok-package_of c =
+    let reads : ReadsRecord c.args.bytes.now (Ok (record_shown c.in-Ok-package_of.package)) = object_record _ _ _ _ _ c.behind_mark.ensures (reads_json c.in-Ok.ensures) c.in-Some.ensures (c.in-Ok-package_of.ensures.shown _ c.in-Ok-fields_of.ensures) in
+    let apart = record_names_are_distinct c.args.bytes.now (Ok (record_shown c.in-Ok-package_of.package)) reads in
+    let indexed = c.in-Ok-package_of.ensures.indexed in
+    record {
+      reads = reads;
+      exports = record { distinct = apart.0; indexed = indexed.0 };
+      imports = record { distinct = apart.1; indexed = indexed.1 };
+    }
 
 pub returns-in-None : goal.returns-in-None
 returns-in-None c = no_object _ _ _ c.behind_mark.ensures (reads_json c.in-Ok.ensures) c.in-None.ensures
