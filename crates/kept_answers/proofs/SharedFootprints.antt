@@ -4,6 +4,7 @@
 --     footprint_again      of one that was kept
 use Rattle.std.proofs.Common.{◌≡◌, ℕ, List, Some, Ok, Err, IfSome, refl, sym, ap, ◌∙◌, subst}
 use Rattle.std.specs.declared.rc.Rc.{Rc}
+use Rattle.std.specs.declared.alloc.Global.{Global}
 use Rattle.std.specs.Prelude.{All}
 use Rattle.tree_spec.proofs.LimitedLooks.{ends_counted}
 use Rattle.tree_spec.proofs.ToldStates.{if_all, if_some, if_two}
@@ -31,7 +32,7 @@ pub no_footprint : {X : Type 0} (folder : FolderState) (known : Known) (asking :
 no_footprint folder known asking fault = if_all folder.holds (λ tree sights sees. tt)
 
 pub footprint_anew : {X : Type 0} (before middle : State) (asking : LookAsking X) (value : X) (found : Found)
-    (own : Rc Found) → own.value ≡ found → found.footprint ≡ middle.trail.question
+    (own : Rc Found Global) → own.value ≡ found → found.footprint ≡ middle.trail.question
     → Answered (afresh before) asking (given value) middle
     → HasFootprint before.folder before.known asking (Ok own)
 footprint_anew before middle asking value found own same is a =
@@ -44,7 +45,7 @@ footprint_anew before middle asking value found own same is a =
     (tells.says sights sees)).counts.question)) a.tells
 
 pub footprint_again : (before after : State) (conditions : List (List ℕ)) (parent specifier : List ℕ)
-    (request : Request) (kept : KeptRequest) (shown : List LookSeen) (own : Rc Found) → shown ≡ kept.looks.value
+    (request : Request) (kept : KeptRequest) (shown : List LookSeen) (own : Rc Found Global) → shown ≡ kept.looks.value
     → request ≡ record { parent = parent; specifier = specifier } → own.value ≡ kept.found.value
     → IfSome before.folder.holds (λ tree. IsRequestOf conditions request kept) → IsSeenAgain before shown after
     → HasFootprint before.folder before.known (node conditions parent specifier) (Ok own)

@@ -12,6 +12,7 @@ use Rattle.std.specs.Cmp.Lexicographic.{pointwise, pointwise_decides}
 use Rattle.std.proofs.lemmas.Bool.{cond-true}
 use Rattle.std.proofs.lemmas.Slice.Eq.{bytes_eq-Decides}
 use Rattle.std.specs.declared.rc.Rc.{Rc}
+use Rattle.std.specs.declared.alloc.Global.{Global}
 use Rattle.tree_spec.proofs.ToldStates.{if_all, if_some}
 use Rattle.tree_spec.specs.LookAskings.{Sights}
 use Rattle.tree_spec.specs.declared.LimitName.{LimitName}
@@ -191,8 +192,8 @@ no_target (node.Limit which) value target e is = no_module which value target e 
 no_target node.Memory value target e is = cc
 
 pub seen_module : (P : Type 0) (conditions : List (List ℕ)) (parent specifier : List ℕ)
-    (found : Result (Rc Found) NodeFault) → IfOk found (λ own. P) → (value : Result Module Refusal)
-    → responded (λ (own : Rc Found). module_of own.value) found ≡ given value
+    (found : Result (Rc Found Global) NodeFault) → IfOk found (λ own. P) → (value : Result Module Refusal)
+    → responded (λ (own : Rc Found Global). module_of own.value) found ≡ given value
     → IsGivenBy (of_request conditions parent specifier) value → P
 seen_module P conditions parent specifier (Ok own) kept value e is = kept
 seen_module P conditions parent specifier (Err fault) kept value e is = absurd (no_target fault value is.0 e is.1)
