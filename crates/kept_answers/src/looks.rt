@@ -85,7 +85,6 @@ fn same_seen(one: &Seen, other: &Seen) -> bool
 
 /// Looks again at the paths of the present question, which leaves the trail.
 pub(crate) fn looks_of<F: Folder>(
-    alloc: Global,
     lookup: &mut Lookup<'_, F>,
 ) -> Result<Listed<LookedAt>, LookupFault>
     ensures answered { Answered (state_of F.state lookup.old) (look_at_each lookup.old.trail.now.question)
@@ -93,8 +92,8 @@ pub(crate) fn looks_of<F: Folder>(
     ensures looks { IfOk result (λ looks. AreLooksAt lookup.new.known.now lookup.old.trail.now.question looks) }
     ensures same { IsSameLookup lookup.old lookup.new }
 {
-    let paths = copy_of(alloc, lookup.trail.question())?;
-    looks_at(alloc, lookup, paths.as_slice())
+    let paths = copy_of(lookup.alloc, lookup.trail.question())?;
+    looks_at(lookup, paths.as_slice())
 }
 
 fn copy_of(alloc: Global, paths: &Paths) -> Result<Paths, Memory>
@@ -108,23 +107,20 @@ fn copy_of(alloc: Global, paths: &Paths) -> Result<Paths, Memory>
 }
 
 // A look at a path.
-fn seen_at<F: Folder>(
-    alloc: Global,
-    lookup: &mut Lookup<'_, F>,
-    path: &Path,
-) -> Result<Seen, LookupFault>
+fn seen_at<F: Folder>(lookup: &mut Lookup<'_, F>, path: &Path) -> Result<Seen, LookupFault>
     ensures answered { Answered (state_of F.state lookup.old) (look_at path.now)
         (looked entry_of result) (state_of F.state lookup.new) }
     ensures counted { IsCounted entry_of lookup.old.trail.now path.now result lookup.new.trail.now }
     ensures held { IfOk result (λ seen. known_at lookup.new.known.now path.now ≡ Some (look_seen seen)) }
     ensures same { IsSameLookup lookup.old lookup.new }
 {
-    lookup.known.look(alloc, lookup.folder, path, lookup.trail)
+    lookup
+        .known
+        .look(lookup.alloc, lookup.folder, path, lookup.trail)
 }
 
 // Looks at these paths, one after another.
 fn looks_at<F: Folder>(
-    alloc: Global,
     lookup: &mut Lookup<'_, F>,
     paths: &[Path],
 ) -> Result<Listed<LookedAt>, LookupFault>
@@ -133,11 +129,11 @@ fn looks_at<F: Folder>(
     ensures looks { IfOk result (λ looks. AreLooksAt lookup.new.known.now paths.now looks) }
     ensures same { IsSameLookup lookup.old lookup.new }
 {
-    let mut looks = Listed::new(alloc);
+    let mut looks = Listed::new(lookup.alloc);
     let mut rest = paths;
     while let Some((path, others)) = rest.split_first() {
-        let seen = seen_at(alloc, lookup, path)?;
-        looks.push(LookedAt::of(path.copy(alloc)?, seen))?;
+        let seen = seen_at(lookup, path)?;
+        looks.push(LookedAt::of(path.copy(lookup.alloc)?, seen))?;
         rest = others;
     }
     Ok(looks)
@@ -145,7 +141,6 @@ fn looks_at<F: Folder>(
 
 /// Looks again at the paths of these looks, in a new question, up to the first that sees otherwise. Whether none does.
 pub(crate) fn look_again<F: Folder>(
-    alloc: Global,
     lookup: &mut Lookup<'_, F>,
     looks: &[LookedAt],
 ) -> Result<bool, LookupFault>
@@ -156,7 +151,7 @@ pub(crate) fn look_again<F: Folder>(
     lookup.trail.begin();
     let mut rest = looks;
     while let Some((look, others)) = rest.split_first() {
-        let seen = seen_at(alloc, lookup, look.path())?;
+        let seen = seen_at(lookup, look.path())?;
         if !look.saw(&seen) {
             return Ok(false);
         }

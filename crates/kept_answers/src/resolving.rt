@@ -40,7 +40,6 @@ impl KeptRequests {
     /// it stands there still. It is kept in the next table. Both tables are those of the request's conditions.
     pub fn answer<F: Folder, L: Ledger>(
         &self,
-        alloc: Global,
         lookup: &mut Lookup<'_, F>,
         request: &Requested<'_>,
         steps: &mut Steps<L>,
@@ -66,14 +65,14 @@ impl KeptRequests {
             (λ tree. AreRequests next.old → AreRequests next.new) }
         ensures same { IsSameLookup lookup.old lookup.new }
     {
-        match key_of(alloc, request.parent, request.specifier) {
+        match key_of(lookup.alloc, request.parent, request.specifier) {
             Err(_) => {
                 lookup.trail.begin();
                 Err(NodeFault::Memory)
             }
             Ok(key) => match self.get(&key) {
-                None => request_anew(alloc, lookup, request, steps, next, key),
-                Some(found) => request_again(alloc, lookup, request, steps, next, key, found),
+                None => request_anew(lookup, request, steps, next, key),
+                Some(found) => request_again(lookup, request, steps, next, key, found),
             },
         }
     }
@@ -89,7 +88,6 @@ fn key_of(alloc: Global, parent: &Path, specifier: &str) -> Result<RequestKey, M
 
 // The kept module, where the looks that decided it see the same; else the module anew.
 fn request_again<F: Folder, L: Ledger>(
-    alloc: Global,
     lookup: &mut Lookup<'_, F>,
     request: &Requested<'_>,
     steps: &mut Steps<L>,
@@ -116,11 +114,9 @@ fn request_again<F: Folder, L: Ledger>(
     ensures right { IfSome (F.state lookup.old.folder.now).holds (λ tree. AreRequests next.old → AreRequests next.new) }
     ensures same { IsSameLookup lookup.old lookup.new }
 {
-    match look_again(alloc, lookup, found.looks.as_slice()) {
+    match look_again(lookup, found.looks.as_slice()) {
         Err(fault) => Err(fault_of(fault)),
-        Ok(false) => request_anew(
-            alloc, lookup, request, steps, next, key,
-        ),
+        Ok(false) => request_anew(lookup, request, steps, next, key),
         Ok(true) => match keep_again(next, key, found) {
             Err(_) => Err(NodeFault::Memory),
             Ok(own) => Ok(own),
@@ -159,7 +155,6 @@ fn keep_again(
 
 // The module, by new looks, which are kept with it.
 fn request_anew<F: Folder, L: Ledger>(
-    alloc: Global,
     lookup: &mut Lookup<'_, F>,
     request: &Requested<'_>,
     steps: &mut Steps<L>,
@@ -183,7 +178,6 @@ fn request_anew<F: Folder, L: Ledger>(
 {
     some_sights();
     match resolve(
-        alloc,
         lookup,
         request.parent,
         request.specifier,
@@ -191,7 +185,7 @@ fn request_anew<F: Folder, L: Ledger>(
         steps,
     ) {
         Err(fault) => Err(fault),
-        Ok(found) => match keep_request(alloc, lookup, next, key, found) {
+        Ok(found) => match keep_request(lookup, next, key, found) {
             Err(fault) => Err(fault_of(fault)),
             Ok(own) => Ok(own),
         },
@@ -200,7 +194,6 @@ fn request_anew<F: Folder, L: Ledger>(
 
 // Keeps a module with the looks of the present question.
 fn keep_request<F: Folder>(
-    alloc: Global,
     lookup: &mut Lookup<'_, F>,
     next: &mut KeptRequests,
     request: RequestKey,
@@ -218,8 +211,8 @@ fn keep_request<F: Folder>(
         → found.footprint ≡ lookup.old.trail.now.question → AreRequests next.old → AreRequests next.new }
     ensures same { IsSameLookup lookup.old lookup.new }
 {
-    let looks = looks_of(alloc, lookup)?;
-    let own = put_request(alloc, next, request, found, looks)?;
+    let looks = looks_of(lookup)?;
+    let own = put_request(lookup.alloc, next, request, found, looks)?;
     Ok(own)
 }
 

@@ -28,7 +28,6 @@ impl KeptModules {
     /// kept here and what decided it stands there still. A source is kept in the next table.
     pub fn answer<F: Folder, L: Ledger>(
         &self,
-        alloc: Global,
         lookup: &mut Lookup<'_, F>,
         path: &Path,
         steps: &mut Steps<L>,
@@ -49,15 +48,14 @@ impl KeptModules {
         ensures same { IsSameLookup lookup.old lookup.new }
     {
         match self.get(path) {
-            None => module_anew(alloc, lookup, path, steps, next),
-            Some(found) => module_again(alloc, lookup, path, steps, next, found),
+            None => module_anew(lookup, path, steps, next),
+            Some(found) => module_again(lookup, path, steps, next, found),
         }
     }
 }
 
 // The kept source, where the looks that decided it see the same; else the source anew.
 fn module_again<F: Folder, L: Ledger>(
-    alloc: Global,
     lookup: &mut Lookup<'_, F>,
     path: &Path,
     steps: &mut Steps<L>,
@@ -77,10 +75,10 @@ fn module_again<F: Folder, L: Ledger>(
     ensures right { IfSome (F.state lookup.old.folder.now).holds (λ tree. AreModules next.old → AreModules next.new) }
     ensures same { IsSameLookup lookup.old lookup.new }
 {
-    match look_again(alloc, lookup, found.looks()) {
+    match look_again(lookup, found.looks()) {
         Err(fault) => Err(fault),
-        Ok(false) => module_anew(alloc, lookup, path, steps, next),
-        Ok(true) => match keep_again(alloc, path, next, found) {
+        Ok(false) => module_anew(lookup, path, steps, next),
+        Ok(true) => match keep_again(lookup.alloc, path, next, found) {
             Err(_) => Err(LookupFault::Memory),
             Ok(source) => Ok(Ok(source)),
         },
@@ -107,7 +105,6 @@ fn keep_again(
 
 // The source, by new looks, which are kept with it.
 fn module_anew<F: Folder, L: Ledger>(
-    alloc: Global,
     lookup: &mut Lookup<'_, F>,
     path: &Path,
     steps: &mut Steps<L>,
@@ -125,10 +122,10 @@ fn module_anew<F: Folder, L: Ledger>(
     ensures same { IsSameLookup lookup.old lookup.new }
 {
     some_sights();
-    match module_source(alloc, lookup, path, steps) {
+    match module_source(lookup, path, steps) {
         Err(fault) => Err(fault),
         Ok(Err(why)) => Ok(Err(why)),
-        Ok(Ok(source)) => match keep_module(alloc, lookup, path, next, &source) {
+        Ok(Ok(source)) => match keep_module(lookup, path, next, &source) {
             Err(fault) => Err(fault),
             Ok(()) => Ok(Ok(source)),
         },
@@ -137,7 +134,6 @@ fn module_anew<F: Folder, L: Ledger>(
 
 // Keeps a source with the looks of the present question.
 fn keep_module<F: Folder>(
-    alloc: Global,
     lookup: &mut Lookup<'_, F>,
     path: &Path,
     next: &mut KeptModules,
@@ -154,8 +150,8 @@ fn keep_module<F: Folder>(
         → AreModules next.old → AreModules next.new }
     ensures same { IsSameLookup lookup.old lookup.new }
 {
-    let looks = looks_of(alloc, lookup)?;
-    put_module(alloc, path, next, source, looks)?;
+    let looks = looks_of(lookup)?;
+    put_module(lookup.alloc, path, next, source, looks)?;
     Ok(())
 }
 

@@ -48,13 +48,10 @@ impl<'a, 'b, 'c, 'd, F: Folder, L: Ledger> Answerer for KeptAnswers<'a, 'b, 'c, 
         alloc: Global,
         path: &Path,
     ) -> Result<Result<Source, NoSource>, TraceFault> {
-        let found = self.kept.modules.answer(
-            alloc,
-            &mut self.lookup,
-            path,
-            self.steps,
-            &mut self.next.modules,
-        );
+        let found = self
+            .kept
+            .modules
+            .answer(&mut self.lookup, path, self.steps, &mut self.next.modules);
         source_answer(found)
     }
 
@@ -66,14 +63,7 @@ impl<'a, 'b, 'c, 'd, F: Folder, L: Ledger> Answerer for KeptAnswers<'a, 'b, 'c, 
         specifier: &str,
     ) -> Result<NodeAnswer, TraceFault> {
         if !self.kept.requests.is_under(conditions) {
-            let found = resolve(
-                alloc,
-                &mut self.lookup,
-                parent,
-                specifier,
-                conditions,
-                self.steps,
-            );
+            let found = resolve(&mut self.lookup, parent, specifier, conditions, self.steps);
             return node_answer(found);
         }
         let request = Requested {
@@ -82,7 +72,6 @@ impl<'a, 'b, 'c, 'd, F: Folder, L: Ledger> Answerer for KeptAnswers<'a, 'b, 'c, 
             conditions,
         };
         let found = self.kept.requests.answer(
-            alloc,
             &mut self.lookup,
             &request,
             self.steps,

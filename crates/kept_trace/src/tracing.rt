@@ -88,6 +88,7 @@ fn tables_again<F: Folder, L: Ledger>(
 {
     let mut answers = KeptAnswers {
         lookup: Lookup {
+            alloc,
             known,
             folder,
             trail,

@@ -4,8 +4,8 @@
 --     all_fresh                     each question is
 --     Keeping                       of which questions an answer is kept, by what stands at each path
 --     all_kept                      none needs to be
---     told_by is_fresh sights       the answers by what stands at each path, the looks of each question up to the one
---                                   that a limit stops, and which are fresh
+--     told_by is_fresh sights       the answers by what stands at each path, the looks of each question up to the one that
+--                                   a limit stops, and which are fresh
 --     ToldBy is_fresh folder known told      these are the answers so, as far as looks tell
 --     TakesStep is_fresh before question taken spent      no step, or one if the question is fresh, by all that looks
 --                                                         tell

@@ -43,7 +43,7 @@ impl<'a, 'b, F: Folder, L: Ledger> Answerer for FolderAnswers<'a, 'b, F, L> {
         alloc: Global,
         path: &Path,
     ) -> Result<Result<Source, NoSource>, TraceFault> {
-        let found = module_source(alloc, &mut self.lookup, path, self.steps);
+        let found = module_source(&mut self.lookup, path, self.steps);
         source_answer(found)
     }
 
@@ -54,14 +54,7 @@ impl<'a, 'b, F: Folder, L: Ledger> Answerer for FolderAnswers<'a, 'b, F, L> {
         parent: &Path,
         specifier: &str,
     ) -> Result<NodeAnswer, TraceFault> {
-        let found = resolve(
-            alloc,
-            &mut self.lookup,
-            parent,
-            specifier,
-            conditions,
-            self.steps,
-        );
+        let found = resolve(&mut self.lookup, parent, specifier, conditions, self.steps);
         node_answer(found)
     }
 }

@@ -77,6 +77,7 @@ fn tables_of<F: Folder, L: Ledger>(
 {
     let mut answers = FolderAnswers {
         lookup: Lookup {
+            alloc,
             known,
             folder,
             trail,
