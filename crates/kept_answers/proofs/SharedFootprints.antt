@@ -2,10 +2,11 @@
 --     no_footprint         where none is found
 --     footprint_anew       of a new answer
 --     footprint_again      of one that was kept
+--     footprint_behind     behind looks
 use Rattle.std.proofs.Common.{◌≡◌, ℕ, List, Some, Ok, Err, IfSome, refl, sym, ap, ◌∙◌, subst}
 use Rattle.std.specs.declared.rc.Rc.{Rc}
 use Rattle.std.specs.declared.alloc.Global.{Global}
-use Rattle.std.specs.Prelude.{All}
+use Rattle.std.specs.Prelude.{Result, All, IfOk}
 use Rattle.tree_spec.proofs.LimitedLooks.{ends_counted}
 use Rattle.tree_spec.proofs.ToldStates.{if_all, if_some, if_two}
 use Rattle.tree_spec.specs.LookAskings.{Sights, LookAsking, look_at_each, footprint}
@@ -61,3 +62,20 @@ footprint_again before after conditions parent specifier request kept shown own 
     ap (λ (f : Found). f.footprint) same
     ∙ (of.footprint ∙ (sym (of.is.certified.each sights here).paths
     ∙ ap (λ (r : Request). footprint sights (node conditions r.parent r.specifier)) is))) right again.answered.tells
+
+-- what is so behind looks is so before them
+pub footprint_behind : {X : Type 0} (before middle : State) (paths : List (List ℕ)) (asking : LookAsking X)
+    (result : Result (Rc Found Global) NodeFault)
+    → Answered (afresh before) (look_at_each paths) (given tt) middle
+    → HasFootprint middle.folder middle.known asking result → HasFootprint before.folder before.known asking result
+footprint_behind before middle paths asking result a has =
+    if_two {P = λ tree. Tells tree (afresh before) (look_at_each paths) (given tt) middle}
+    {Q = λ tree. (sights : Sights) → Sees tree middle.known sights
+    → IfOk result (λ found. found.value.footprint ≡ footprint sights asking)}
+    {R = λ tree. (sights : Sights) → Sees tree before.known sights
+    → IfOk result (λ found. found.value.footprint ≡ footprint sights asking)} before.folder.holds
+    (λ tree tells here sights sees. here sights (sees_still tree before.known middle.known sights tells.same sees))
+    a.tells
+    (subst (λ holds. IfSome holds
+    (λ tree. (sights : Sights) → Sees tree middle.known sights
+    → IfOk result (λ found. found.value.footprint ≡ footprint sights asking))) a.folder.tree has)

@@ -7,7 +7,7 @@ use Rattle.node_resolve.specs.Places.{module_of}
 use Rattle.node_resolve.specs.Responses.{responded}
 use Rattle.node_spec.specs.EsmResolve.{node}
 use Rattle.kept_answers.proofs.FreshSteps.{none_taken, other_again, other_taken}
-use Rattle.kept_answers.proofs.SharedFootprints.{no_footprint, footprint_again}
+use Rattle.kept_answers.proofs.SharedFootprints.{no_footprint, footprint_again, footprint_behind}
 use Rattle.kept_answers.proofs.RequestLemmas.{is_kept}
 use Rattle.kept_answers.specs.Entries.{is_request}
 use Rattle.kept_answers.specs.Freshness.{request_looks}
@@ -157,3 +157,11 @@ returns-in-Ok-false-clause-still g c =
     let to = (seen_other (state_of g.F.Folder.state c.args.lookup.now)
     (state_of g.F.Folder.state c.look_again.new.lookup) c.as_slice.result.now c.in-Ok-false.field-0 c.in-Ok-false.field-0-test c.in-Ok-false.ensures.again) in
     λ other. stays_before (state_of g.F.Folder.state c.args.lookup.now) (state_of g.F.Folder.state c.look_again.new.lookup) _ to.answered _ _ (c.request_anew.ensures.still other)
+
+pub returns-in-Ok-false-clause-footprint : goal.returns-in-Ok-false-clause-footprint
+returns-in-Ok-false-clause-footprint g c =
+    let to = (seen_other (state_of g.F.Folder.state c.args.lookup.now)
+    (state_of g.F.Folder.state c.look_again.new.lookup) c.as_slice.result.now c.in-Ok-false.field-0 c.in-Ok-false.field-0-test c.in-Ok-false.ensures.again) in
+    footprint_behind (state_of g.F.Folder.state c.args.lookup.now) (state_of g.F.Folder.state c.look_again.new.lookup) _
+    (node c.args.request.now.conditions.now c.args.request.now.parent.now c.args.request.now.specifier.now)
+    c.request_anew.result to.answered c.request_anew.ensures.footprint
