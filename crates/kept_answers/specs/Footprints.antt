@@ -11,7 +11,8 @@ use Rattle.package_lookup.specs.Looked.{Sees}
 use Rattle.package_lookup.specs.declared.known.Known.{Known}
 
 -- own: where a tree is told, whatever stands at each path as far as looks tell
-abbrev pub HasFootprint : {X : Type 0} → FolderState → Known → LookAsking X → Result (Rc Found Global) NodeFault → Type 0
+abbrev pub HasFootprint : {X : Type 0} → FolderState → Known → LookAsking X → Result (Rc Found Global) NodeFault
+    → Type 0
 HasFootprint folder known asking result =
     IfSome folder.holds
     (λ tree. (sights : Sights) → Sees tree known sights
