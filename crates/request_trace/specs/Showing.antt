@@ -3,11 +3,12 @@
 --     gathered_in l needs spellings           what is gathered in this graph, with these needs and spellings
 --     traced_in l needs spellings footprint   the trace of these
 --     gathered_of result                      what was gathered, or why it wasn't
+--     bytes_at trace place                    the bytes of the module at a place
 --     Shows trace                             the modules that were gathered, their sources, and where each request
 --                                             leads, are those of the graph
 --     IsTraceAt base names requests all       what was gathered is whole, these are the names of the modules at this
 --                                             base, and that is the number of requests
-use Rattle.std.specs.Prelude.{◌≡◌, ℕ, List, length, map, Some, Result, Ok, Err}
+use Rattle.std.specs.Prelude.{◌≡◌, ℕ, List, length, map, slice_get, Option, Some, option_map, Result, Ok, Err}
 use Rattle.layout_spec.specs.declared.Need.{Need}
 use Rattle.trace_graph.specs.Links.{Links, modules_of, sources_of, targets_of}
 use Rattle.trace_spec.specs.Checks.{Gathered, Spelling}
@@ -41,6 +42,9 @@ traced_in l needs spellings footprint =
 abbrev pub gathered_of : {E : Type 0} → Result Traced E → Result Gathered E
 gathered_of (Ok trace) = Ok trace.gathered
 gathered_of (Err fault) = Err fault
+
+abbrev pub bytes_at : Traced → ℕ → Option (List ℕ)
+bytes_at trace place = option_map (λ source. source.bytes) (slice_get trace.gathered.sources place)
 
 pub record Shows (trace : Traced) : Type 0 where
   pub modules_are : modules_of trace.links ≡ trace.gathered.modules

@@ -8,7 +8,7 @@ ghost use Rattle.trace_walk.specs.Walking.{AreBeside, AreOfUrls, IsWhole, module
 ghost use Rattle.module_graph.specs.Graphs.{AreModules};
 ghost use Rattle.trace_graph.specs.Links.{IsLinked, IsLive, module_of, source_of};
 ghost use Rattle.request_trace.specs.Naming.{AllNamedAt};
-ghost use Rattle.request_trace.specs.Showing.{Shows};
+ghost use Rattle.request_trace.specs.Showing.{Shows, bytes_at};
 ghost use Rattle.request_trace.specs.Tracing.{CountsModules};
 
 use crate::vertices::{Joined, join};
@@ -196,7 +196,7 @@ impl Trace {
 
     /// The bytes of the module at a place. Each module has its source, as `len` says.
     pub fn bytes(&self, place: usize) -> Option<&[u8]>
-        ensures { option_copied result ≡ option_map (λ source. source.bytes) (slice_get self.now.gathered.sources place) }
+        ensures { option_copied result ≡ bytes_at self.now place }
     {
         match self.module(place) {
             None => None,
