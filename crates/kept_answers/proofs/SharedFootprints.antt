@@ -2,9 +2,11 @@
 --     no_footprint         where none is found
 --     footprint_anew       of a new answer
 --     footprint_again      of one that was kept
+--     footprint_behind     behind looks
 use Rattle.std.proofs.Common.{◌≡◌, ℕ, List, Some, Ok, Err, IfSome, refl, sym, ap, ◌∙◌, subst}
 use Rattle.std.specs.declared.rc.Rc.{Rc}
-use Rattle.std.specs.Prelude.{All}
+use Rattle.std.specs.declared.alloc.Global.{Global}
+use Rattle.std.specs.Prelude.{Result, All, IfOk}
 use Rattle.tree_spec.proofs.LimitedLooks.{ends_counted}
 use Rattle.tree_spec.proofs.ToldStates.{if_all, if_some, if_two}
 use Rattle.tree_spec.specs.LookAskings.{Sights, LookAsking, look_at_each, footprint}
@@ -31,7 +33,7 @@ pub no_footprint : {X : Type 0} (folder : FolderState) (known : Known) (asking :
 no_footprint folder known asking fault = if_all folder.holds (λ tree sights sees. tt)
 
 pub footprint_anew : {X : Type 0} (before middle : State) (asking : LookAsking X) (value : X) (found : Found)
-    (own : Rc Found) → own.value ≡ found → found.footprint ≡ middle.trail.question
+    (own : Rc Found Global) → own.value ≡ found → found.footprint ≡ middle.trail.question
     → Answered (afresh before) asking (given value) middle
     → HasFootprint before.folder before.known asking (Ok own)
 footprint_anew before middle asking value found own same is a =
@@ -44,7 +46,7 @@ footprint_anew before middle asking value found own same is a =
     (tells.says sights sees)).counts.question)) a.tells
 
 pub footprint_again : (before after : State) (conditions : List (List ℕ)) (parent specifier : List ℕ)
-    (request : Request) (kept : KeptRequest) (shown : List LookSeen) (own : Rc Found) → shown ≡ kept.looks.value
+    (request : Request) (kept : KeptRequest) (shown : List LookSeen) (own : Rc Found Global) → shown ≡ kept.looks.value
     → request ≡ record { parent = parent; specifier = specifier } → own.value ≡ kept.found.value
     → IfSome before.folder.holds (λ tree. IsRequestOf conditions request kept) → IsSeenAgain before shown after
     → HasFootprint before.folder before.known (node conditions parent specifier) (Ok own)
@@ -60,3 +62,20 @@ footprint_again before after conditions parent specifier request kept shown own 
     ap (λ (f : Found). f.footprint) same
     ∙ (of.footprint ∙ (sym (of.is.certified.each sights here).paths
     ∙ ap (λ (r : Request). footprint sights (node conditions r.parent r.specifier)) is))) right again.answered.tells
+
+-- what is so behind looks is so before them
+pub footprint_behind : {X : Type 0} (before middle : State) (paths : List (List ℕ)) (asking : LookAsking X)
+    (result : Result (Rc Found Global) NodeFault)
+    → Answered (afresh before) (look_at_each paths) (given tt) middle
+    → HasFootprint middle.folder middle.known asking result → HasFootprint before.folder before.known asking result
+footprint_behind before middle paths asking result a has =
+    if_two {P = λ tree. Tells tree (afresh before) (look_at_each paths) (given tt) middle}
+    {Q = λ tree. (sights : Sights) → Sees tree middle.known sights
+    → IfOk result (λ found. found.value.footprint ≡ footprint sights asking)}
+    {R = λ tree. (sights : Sights) → Sees tree before.known sights
+    → IfOk result (λ found. found.value.footprint ≡ footprint sights asking)} before.folder.holds
+    (λ tree tells here sights sees. here sights (sees_still tree before.known middle.known sights tells.same sees))
+    a.tells
+    (subst (λ holds. IfSome holds
+    (λ tree. (sights : Sights) → Sees tree middle.known sights
+    → IfOk result (λ found. found.value.footprint ≡ footprint sights asking))) a.folder.tree has)

@@ -41,23 +41,23 @@ impl KeptRequests {
     pub fn answer<F: Folder, L: Ledger>(
         &self,
         lookup: &mut Lookup<'_, F>,
-        request: Requested<'_>,
+        request: &Requested<'_>,
         steps: &mut Steps<L>,
         next: &mut KeptRequests,
     ) -> Result<Rc<Found>, NodeFault>
-        requires names { self.now.names ≡ request.conditions.now }
-        requires next { next.old.names ≡ request.conditions.now }
+        requires names { self.now.names ≡ request.now.conditions.now }
+        requires next { next.old.names ≡ request.now.conditions.now }
         requires right { IfSome (F.state lookup.old.folder.now).holds (λ tree. AreRequests self.now) }
         ensures answered { Answered (begun_of F.state lookup.old)
-            (spec.node request.conditions.now request.parent.now request.specifier.now)
+            (spec.node request.now.conditions.now request.now.parent.now request.now.specifier.now)
             (responded (λ found. module_of found.value) result) (state_of F.state lookup.new) }
         ensures footprint { HasFootprint (F.state lookup.old.folder.now) lookup.old.known.now
-            (spec.node request.conditions.now request.parent.now request.specifier.now) result }
+            (spec.node request.now.conditions.now request.now.parent.now request.now.specifier.now) result }
         ensures cost { steps.new ≤ steps.old + 1 }
         ensures fresh { TakesStepIfFresh (F.state lookup.old.folder.now) lookup.old.known.now (request_looks self.now
-            (record { parent = request.parent.now; specifier = request.specifier.now })) steps.old steps.new }
+            (record { parent = request.now.parent.now; specifier = request.now.specifier.now })) steps.old steps.new }
         ensures kept { IfOk result (λ found. IsSeenNow (state_of F.state lookup.old) (request_looks next.new
-            (record { parent = request.parent.now; specifier = request.specifier.now }))) }
+            (record { parent = request.now.parent.now; specifier = request.now.specifier.now }))) }
         ensures still { (other : Request) → StaysSeen (state_of F.state lookup.old)
             (request_looks next.old other) (request_looks next.new other) }
         ensures names { next.new.names ≡ next.old.names }
@@ -89,21 +89,21 @@ fn key_of(alloc: Global, parent: &Path, specifier: &str) -> Result<RequestKey, M
 // The kept module, where the looks that decided it see the same; else the module anew.
 fn request_again<F: Folder, L: Ledger>(
     lookup: &mut Lookup<'_, F>,
-    request: Requested<'_>,
+    request: &Requested<'_>,
     steps: &mut Steps<L>,
     next: &mut KeptRequests,
     key: RequestKey,
     found: &KeptRequest,
 ) -> Result<Rc<Found>, NodeFault>
-    requires key { key ≡ record { parent = request.parent.now; specifier = request.specifier.now } }
-    requires next { next.old.names ≡ request.conditions.now }
+    requires key { key ≡ record { parent = request.now.parent.now; specifier = request.now.specifier.now } }
+    requires next { next.old.names ≡ request.now.conditions.now }
     requires right { IfSome (F.state lookup.old.folder.now).holds
-        (λ tree. IsRequestOf request.conditions.now key found.now) }
+        (λ tree. IsRequestOf request.now.conditions.now key found.now) }
     ensures answered { Answered (begun_of F.state lookup.old)
-        (spec.node request.conditions.now request.parent.now request.specifier.now)
+        (spec.node request.now.conditions.now request.now.parent.now request.now.specifier.now)
         (responded (λ found. module_of found.value) result) (state_of F.state lookup.new) }
     ensures footprint { HasFootprint (F.state lookup.old.folder.now) lookup.old.known.now
-        (spec.node request.conditions.now request.parent.now request.specifier.now) result }
+        (spec.node request.now.conditions.now request.now.parent.now request.now.specifier.now) result }
     ensures cost { steps.new ≤ steps.old + 1 }
     ensures fresh { TakesStepIfFresh (F.state lookup.old.folder.now) lookup.old.known.now
         (Some found.now.looks.value) steps.old steps.new }
@@ -156,18 +156,18 @@ fn keep_again(
 // The module, by new looks, which are kept with it.
 fn request_anew<F: Folder, L: Ledger>(
     lookup: &mut Lookup<'_, F>,
-    request: Requested<'_>,
+    request: &Requested<'_>,
     steps: &mut Steps<L>,
     next: &mut KeptRequests,
     key: RequestKey,
 ) -> Result<Rc<Found>, NodeFault>
-    requires key { key ≡ record { parent = request.parent.now; specifier = request.specifier.now } }
-    requires next { next.old.names ≡ request.conditions.now }
+    requires key { key ≡ record { parent = request.now.parent.now; specifier = request.now.specifier.now } }
+    requires next { next.old.names ≡ request.now.conditions.now }
     ensures answered { Answered (begun_of F.state lookup.old)
-        (spec.node request.conditions.now request.parent.now request.specifier.now)
+        (spec.node request.now.conditions.now request.now.parent.now request.now.specifier.now)
         (responded (λ found. module_of found.value) result) (state_of F.state lookup.new) }
     ensures footprint { HasFootprint (F.state lookup.old.folder.now) lookup.old.known.now
-        (spec.node request.conditions.now request.parent.now request.specifier.now) result }
+        (spec.node request.now.conditions.now request.now.parent.now request.now.specifier.now) result }
     ensures cost { steps.new ≤ steps.old + 1 }
     ensures kept { IfOk result (λ found. IsSeenNow (state_of F.state lookup.old) (request_looks next.new key)) }
     ensures still { (other : Request) → StaysSeen (state_of F.state lookup.old)

@@ -40,7 +40,8 @@ impl KeptModules {
         ensures fresh { TakesStepIfFresh (F.state lookup.old.folder.now) lookup.old.known.now
             (module_looks self.now path.now) steps.old steps.new }
         ensures is { FindsSource result }
-        ensures kept { IfOk result (λ answer. IfOk answer (λ source. IsSeenNow (state_of F.state lookup.old) (module_looks next.new path.now))) }
+        ensures kept { IfOk result (λ answer. IfOk answer (λ source. IsSeenNow (state_of F.state lookup.old)
+            (module_looks next.new path.now))) }
         ensures still { (other : List ℕ) → StaysSeen (state_of F.state lookup.old)
             (module_looks next.old other) (module_looks next.new other) }
         ensures right { IfSome (F.state lookup.old.folder.now).holds
@@ -66,7 +67,8 @@ fn module_again<F: Folder, L: Ledger>(
     ensures answered { Answered (begun_of F.state lookup.old) (spec.module_source path.now)
         (looked source_in result) (state_of F.state lookup.new) }
     ensures cost { steps.new ≤ steps.old + 1 }
-    ensures fresh { TakesStepIfFresh (F.state lookup.old.folder.now) lookup.old.known.now (Some found.now.looks) steps.old steps.new }
+    ensures fresh { TakesStepIfFresh (F.state lookup.old.folder.now) lookup.old.known.now (Some found.now.looks)
+        steps.old steps.new }
     ensures is { FindsSource result }
     ensures kept { IfOk result (λ answer. IfOk answer (λ source. IsSeenNow (state_of F.state lookup.old)
         (module_looks next.new path.now))) }

@@ -25,10 +25,9 @@ use Rattle.trace_walk.specs.Meeting.{asked_then, asked_to_end, Met}
 use Rattle.trace_walk.specs.Shown.{traced_of, before_of}
 use Rattle.trace_walk.specs.declared.tables.Tables.{Tables}
 use Rattle.request_trace.specs.Answering.{Freshness, Keeping, Stays, told_by, answers_of}
-use Rattle.request_trace.proofs.AnswerLemmas.{answers_always}
 use Rattle.kept_trace.specs.Keeping.{IsUnder, IsGivenBy, keeps, KeepsTraced}
 use Rattle.kept_trace.specs.declared.kept.Kept.{Kept}
-use Rattle.kept_trace.proofs.Telling.{with_told}
+use Rattle.kept_trace.proofs.Telling.{answers_always, with_told}
 
 -- ---- what is asked until the end
 

@@ -12,6 +12,7 @@ use Rattle.std.specs.Cmp.Lexicographic.{pointwise, pointwise_decides}
 use Rattle.std.proofs.lemmas.Bool.{cond-true}
 use Rattle.std.proofs.lemmas.Slice.Eq.{bytes_eq-Decides}
 use Rattle.std.specs.declared.rc.Rc.{Rc}
+use Rattle.std.specs.declared.alloc.Global.{Global}
 use Rattle.tree_spec.proofs.ToldStates.{if_all, if_some}
 use Rattle.tree_spec.specs.LookAskings.{Sights}
 use Rattle.tree_spec.specs.declared.LimitName.{LimitName}
@@ -35,7 +36,7 @@ use Rattle.trace_spec.specs.Questions as spec
 use Rattle.trace_spec.specs.Questions.{Question, Answer, of_module, of_request, put, always}
 use Rattle.trace_spec.specs.declared.TraceFault.{TraceFault}
 use Rattle.request_trace.specs.Answering.{result_by, KeepsOn, KeepsAnswer}
-use Rattle.request_trace.proofs.AnswerLemmas.{afresh, answers_always}
+use Rattle.request_trace.proofs.AnswerLemmas.{afresh}
 use Rattle.kept_spec.specs.Certificates.{LookSeen}
 use Rattle.kept_answers.specs.Entries.{Request}
 use Rattle.kept_answers.specs.Freshness.{module_looks, request_looks, is_fresh, IsSeenNow, StaysSeen}
@@ -46,7 +47,7 @@ use Rattle.kept_trace.specs.Keeping.{stays_of, IsGivenBy, keeps}
 use Rattle.kept_trace.specs.Ready.{kept_looks, is_anew}
 use Rattle.kept_trace.specs.Sharing.{IsToldAs}
 use Rattle.kept_trace.specs.declared.kept.Kept.{Kept}
-use Rattle.kept_trace.proofs.Telling.{with_told, told_so, if_each}
+use Rattle.kept_trace.proofs.Telling.{answers_always, with_told, told_so, if_each}
 
 pub same_stays : {F : Type 0} (old new : Lookup F) (steps next : ℕ) (kept : Kept) → IsSameLookup old new
     → stays_of new steps next kept ≡ stays_of old steps next kept
@@ -191,8 +192,8 @@ no_target (node.Limit which) value target e is = no_module which value target e 
 no_target node.Memory value target e is = cc
 
 pub seen_module : (P : Type 0) (conditions : List (List ℕ)) (parent specifier : List ℕ)
-    (found : Result (Rc Found) NodeFault) → IfOk found (λ own. P) → (value : Result Module Refusal)
-    → responded (λ (own : Rc Found). module_of own.value) found ≡ given value
+    (found : Result (Rc Found Global) NodeFault) → IfOk found (λ own. P) → (value : Result Module Refusal)
+    → responded (λ (own : Rc Found Global). module_of own.value) found ≡ given value
     → IsGivenBy (of_request conditions parent specifier) value → P
 seen_module P conditions parent specifier (Ok own) kept value e is = kept
 seen_module P conditions parent specifier (Err fault) kept value e is = absurd (no_target fault value is.0 e is.1)

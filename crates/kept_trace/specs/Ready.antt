@@ -2,7 +2,8 @@
 --     AreAllRight kept               all that is kept is right
 --     IsEmptyUnder conditions kept   nothing is kept, and that under these conditions
 --     AreBothRight kept next         the answers of the walk before, and those that are kept for the next one
---     IsReady folder kept next       so it is where the folder tells a tree; and both are kept under the same conditions
+--     IsReady folder kept next       so it is where the folder tells a tree; and both are kept under the same
+--                                    conditions
 --     kept_looks kept question       the looks that are kept of a question
 --     is_anew kept sights question   the question is asked anew
 use Rattle.std.specs.Prelude.{◌≡◌, ℕ, Bool, List, bytes_eq, Option, None, IfSome, if◌then◌else◌}

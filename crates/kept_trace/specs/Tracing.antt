@@ -1,5 +1,6 @@
 -- A trace by kept answers.
---     KeepsAsked sights asked kept         of each of these questions an answer is kept whose looks see what stands here
+--     KeepsAsked sights asked kept         of each of these questions an answer is kept whose looks see what stands
+--                                          here
 --     IsFreshAfter before asked after question      it wasn't asked before, or something changed at its footprint
 --     FreshIsByTrees                       a question that is asked anew is fresh by the trees before and after
 use Rattle.std.specs.Prelude.{◌≡◌, Bool, true, false, List, Contains}

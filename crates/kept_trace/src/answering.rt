@@ -73,7 +73,7 @@ impl<'a, 'b, 'c, 'd, F: Folder, L: Ledger> Answerer for KeptAnswers<'a, 'b, 'c, 
         };
         let found = self.kept.requests.answer(
             &mut self.lookup,
-            request,
+            &request,
             self.steps,
             &mut self.next.requests,
         );

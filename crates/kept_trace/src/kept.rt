@@ -28,18 +28,18 @@ impl Kept {
 
 /// What is kept of the answers of a walk, and what is kept for the next one.
 #[derive(Drop)]
-pub struct Answers {
+pub struct TraceAnswers {
     pub(crate) kept: Kept,
     pub(crate) next: Kept,
 }
 
-impl Answers {
+impl TraceAnswers {
     /// Nothing is kept.
-    pub fn new(alloc: Global, conditions: &Conditions) -> Result<Answers, Memory>
+    pub fn new(alloc: Global, conditions: &Conditions) -> Result<TraceAnswers, Memory>
         ensures kept { IfOk result (λ answers. IsEmptyUnder conditions.now answers.kept) }
         ensures next { IfOk result (λ answers. IsEmptyUnder conditions.now answers.next) }
     {
-        Ok(Answers {
+        Ok(TraceAnswers {
             kept: Kept::new(alloc, conditions)?,
             next: Kept::new(alloc, conditions)?,
         })

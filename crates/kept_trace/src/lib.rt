@@ -9,7 +9,7 @@ mod tracing;
 ghost use Rattle.kept_trace.specs.Tracing.{FreshIsByTrees};
 
 pub use answering::KeptAnswers;
-pub use kept::{Answers, Kept};
+pub use kept::{Kept, TraceAnswers};
 
 /// A question that is asked anew wasn't asked for the trace before, or something changed at its footprint.
 pub fn fresh_is_by_trees()

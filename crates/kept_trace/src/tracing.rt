@@ -9,7 +9,7 @@ ghost use Rattle.kept_trace.specs.Keeping.{KeepsTraced};
 ghost use Rattle.kept_trace.specs.Ready.{IsReady, is_anew};
 
 use crate::answering::KeptAnswers;
-use crate::kept::{Answers, Kept};
+use crate::kept::{Kept, TraceAnswers};
 use package_lookup::{Known, Lookup, Trail};
 use request_trace::{Trace, trace_of};
 use shared_types::Steps;
@@ -20,7 +20,7 @@ use trace_spec::TraceFault;
 use trace_walk::{Tables, walk};
 use tree_model::Folder;
 
-impl Answers {
+impl TraceAnswers {
     /// The trace of a folder and a config, or its first refusal, as `request_trace::trace` gives it. A question takes a
     /// step only where no answer to it is kept, or where one of the looks that decided the kept answer sees something
     /// else. Each answer is kept for the next trace, once this one is committed.

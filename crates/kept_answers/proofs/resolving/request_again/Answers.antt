@@ -7,7 +7,7 @@ use Rattle.node_resolve.specs.Places.{module_of}
 use Rattle.node_resolve.specs.Responses.{responded}
 use Rattle.node_spec.specs.EsmResolve.{node}
 use Rattle.kept_answers.proofs.FreshSteps.{none_taken, other_again, other_taken}
-use Rattle.kept_answers.proofs.SharedFootprints.{no_footprint, footprint_again}
+use Rattle.kept_answers.proofs.SharedFootprints.{no_footprint, footprint_again, footprint_behind}
 use Rattle.kept_answers.proofs.RequestLemmas.{is_kept}
 use Rattle.kept_answers.specs.Entries.{is_request}
 use Rattle.kept_answers.specs.Freshness.{request_looks}
@@ -18,15 +18,15 @@ pub returns-in-Err-clause-answered : goal.returns-in-Err-clause-answered
 returns-in-Err-clause-answered g c =
     node_failing (begun_of g.F.Folder.state c.args.lookup.now)
     (state_of g.F.Folder.state c.look_again.new.lookup)
-    (node c.args.request.conditions.now c.args.request.parent.now c.args.request.specifier.now) c.in-Err.fault c.fault_of.result
+    (node c.args.request.now.conditions.now c.args.request.now.parent.now c.args.request.now.specifier.now) c.in-Err.fault c.fault_of.result
     c.fault_of.ensures
-    (failed_again (node c.args.request.conditions.now c.args.request.parent.now c.args.request.specifier.now) (Ok (module_of c.args.found.now.found.value))
+    (failed_again (node c.args.request.now.conditions.now c.args.request.now.parent.now c.args.request.now.specifier.now) (Ok (module_of c.args.found.now.found.value))
     c.as_slice.result.now (state_of g.F.Folder.state c.args.lookup.now)
     (kept_looks (g.F.Folder.state c.args.lookup.now.folder.now).holds
-    (node c.args.request.conditions.now c.args.request.parent.now c.args.request.specifier.now) (Ok (module_of c.args.found.now.found.value))
+    (node c.args.request.now.conditions.now c.args.request.now.parent.now c.args.request.now.specifier.now) (Ok (module_of c.args.found.now.found.value))
     c.args.found.now.looks.value c.as_slice.result.now (c.as_slice.ensures ∙ c.deref.ensures)
-    (is_kept (g.F.Folder.state c.args.lookup.now.folder.now).holds c.args.request.conditions.now c.args.request.conditions.now c.args.request.parent.now
-    c.args.request.specifier.now c.args.key c.args.found.now refl c.requires.key c.requires.right))
+    (is_kept (g.F.Folder.state c.args.lookup.now.folder.now).holds c.args.request.now.conditions.now c.args.request.now.conditions.now c.args.request.now.parent.now
+    c.args.request.now.specifier.now c.args.key c.args.found.now refl c.requires.key c.requires.right))
     (failing_of c.in-Err.fault) (state_of g.F.Folder.state c.look_again.new.lookup)
     (to_failing (state_of g.F.Folder.state c.args.lookup.now)
     (state_of g.F.Folder.state c.look_again.new.lookup) c.as_slice.result.now c.in-Err.fault c.in-Err.ensures.again))
@@ -35,14 +35,14 @@ pub returns-in-Err-keep_again-clause-answered : goal.returns-in-Err-keep_again-c
 returns-in-Err-keep_again-clause-answered g c =
     lost (begun_of g.F.Folder.state c.args.lookup.now)
     (state_of g.F.Folder.state c.look_again.new.lookup)
-    (node c.args.request.conditions.now c.args.request.parent.now c.args.request.specifier.now) (Ok (module_of c.args.found.now.found.value))
-    (given_again (node c.args.request.conditions.now c.args.request.parent.now c.args.request.specifier.now) (Ok (module_of c.args.found.now.found.value))
+    (node c.args.request.now.conditions.now c.args.request.now.parent.now c.args.request.now.specifier.now) (Ok (module_of c.args.found.now.found.value))
+    (given_again (node c.args.request.now.conditions.now c.args.request.now.parent.now c.args.request.now.specifier.now) (Ok (module_of c.args.found.now.found.value))
     c.as_slice.result.now (state_of g.F.Folder.state c.args.lookup.now)
     (kept_looks (g.F.Folder.state c.args.lookup.now.folder.now).holds
-    (node c.args.request.conditions.now c.args.request.parent.now c.args.request.specifier.now) (Ok (module_of c.args.found.now.found.value))
+    (node c.args.request.now.conditions.now c.args.request.now.parent.now c.args.request.now.specifier.now) (Ok (module_of c.args.found.now.found.value))
     c.args.found.now.looks.value c.as_slice.result.now (c.as_slice.ensures ∙ c.deref.ensures)
-    (is_kept (g.F.Folder.state c.args.lookup.now.folder.now).holds c.args.request.conditions.now c.args.request.conditions.now c.args.request.parent.now
-    c.args.request.specifier.now c.args.key c.args.found.now refl c.requires.key c.requires.right))
+    (is_kept (g.F.Folder.state c.args.lookup.now.folder.now).holds c.args.request.now.conditions.now c.args.request.now.conditions.now c.args.request.now.parent.now
+    c.args.request.now.specifier.now c.args.key c.args.found.now refl c.requires.key c.requires.right))
     (state_of g.F.Folder.state c.look_again.new.lookup)
     (seen_again (state_of g.F.Folder.state c.args.lookup.now)
     (state_of g.F.Folder.state c.look_again.new.lookup) c.as_slice.result.now c.in-Ok-true.field-0 c.in-Ok-true.field-0-test c.in-Ok-true.ensures.again))
@@ -51,28 +51,28 @@ pub returns-in-Ok-clause-answered : goal.returns-in-Ok-clause-answered
 returns-in-Ok-clause-answered g c =
     given_as (begun_of g.F.Folder.state c.args.lookup.now)
     (state_of g.F.Folder.state c.look_again.new.lookup)
-    (node c.args.request.conditions.now c.args.request.parent.now c.args.request.specifier.now) (Ok (module_of c.args.found.now.found.value))
+    (node c.args.request.now.conditions.now c.args.request.now.parent.now c.args.request.now.specifier.now) (Ok (module_of c.args.found.now.found.value))
     (Ok (module_of c.in-Ok.own.value)) (ap (λ f. Ok (module_of f)) c.in-Ok.ensures.found)
-    (given_again (node c.args.request.conditions.now c.args.request.parent.now c.args.request.specifier.now) (Ok (module_of c.args.found.now.found.value))
+    (given_again (node c.args.request.now.conditions.now c.args.request.now.parent.now c.args.request.now.specifier.now) (Ok (module_of c.args.found.now.found.value))
     c.as_slice.result.now (state_of g.F.Folder.state c.args.lookup.now)
     (kept_looks (g.F.Folder.state c.args.lookup.now.folder.now).holds
-    (node c.args.request.conditions.now c.args.request.parent.now c.args.request.specifier.now) (Ok (module_of c.args.found.now.found.value))
+    (node c.args.request.now.conditions.now c.args.request.now.parent.now c.args.request.now.specifier.now) (Ok (module_of c.args.found.now.found.value))
     c.args.found.now.looks.value c.as_slice.result.now (c.as_slice.ensures ∙ c.deref.ensures)
-    (is_kept (g.F.Folder.state c.args.lookup.now.folder.now).holds c.args.request.conditions.now c.args.request.conditions.now c.args.request.parent.now
-    c.args.request.specifier.now c.args.key c.args.found.now refl c.requires.key c.requires.right))
+    (is_kept (g.F.Folder.state c.args.lookup.now.folder.now).holds c.args.request.now.conditions.now c.args.request.now.conditions.now c.args.request.now.parent.now
+    c.args.request.now.specifier.now c.args.key c.args.found.now refl c.requires.key c.requires.right))
     (state_of g.F.Folder.state c.look_again.new.lookup)
     (seen_again (state_of g.F.Folder.state c.args.lookup.now)
     (state_of g.F.Folder.state c.look_again.new.lookup) c.as_slice.result.now c.in-Ok-true.field-0 c.in-Ok-true.field-0-test c.in-Ok-true.ensures.again))
 
 pub returns-in-Ok-false-clause-answered : goal.returns-in-Ok-false-clause-answered
 returns-in-Ok-false-clause-answered g c =
-    behind_looks (node c.args.request.conditions.now c.args.request.parent.now c.args.request.specifier.now) (Ok (module_of c.args.found.now.found.value))
+    behind_looks (node c.args.request.now.conditions.now c.args.request.now.parent.now c.args.request.now.specifier.now) (Ok (module_of c.args.found.now.found.value))
     c.as_slice.result.now (state_of g.F.Folder.state c.args.lookup.now)
     (kept_looks (g.F.Folder.state c.args.lookup.now.folder.now).holds
-    (node c.args.request.conditions.now c.args.request.parent.now c.args.request.specifier.now) (Ok (module_of c.args.found.now.found.value))
+    (node c.args.request.now.conditions.now c.args.request.now.parent.now c.args.request.now.specifier.now) (Ok (module_of c.args.found.now.found.value))
     c.args.found.now.looks.value c.as_slice.result.now (c.as_slice.ensures ∙ c.deref.ensures)
-    (is_kept (g.F.Folder.state c.args.lookup.now.folder.now).holds c.args.request.conditions.now c.args.request.conditions.now c.args.request.parent.now
-    c.args.request.specifier.now c.args.key c.args.found.now refl c.requires.key c.requires.right))
+    (is_kept (g.F.Folder.state c.args.lookup.now.folder.now).holds c.args.request.now.conditions.now c.args.request.now.conditions.now c.args.request.now.parent.now
+    c.args.request.now.specifier.now c.args.key c.args.found.now refl c.requires.key c.requires.right))
     (state_of g.F.Folder.state c.look_again.new.lookup)
     (seen_other (state_of g.F.Folder.state c.args.lookup.now)
     (state_of g.F.Folder.state c.look_again.new.lookup) c.as_slice.result.now c.in-Ok-false.field-0 c.in-Ok-false.field-0-test c.in-Ok-false.ensures.again)
@@ -107,7 +107,7 @@ pub returns-in-Ok-clause-footprint : goal.returns-in-Ok-clause-footprint
 returns-in-Ok-clause-footprint g c =
     footprint_again (state_of g.F.Folder.state c.args.lookup.now)
     (state_of g.F.Folder.state c.look_again.new.lookup)
-    c.args.request.conditions.now c.args.request.parent.now c.args.request.specifier.now c.args.key c.args.found.now c.as_slice.result.now
+    c.args.request.now.conditions.now c.args.request.now.parent.now c.args.request.now.specifier.now c.args.key c.args.found.now c.as_slice.result.now
     c.in-Ok.own (c.as_slice.ensures ∙ c.deref.ensures) c.requires.key c.in-Ok.ensures.found c.requires.right
     (seen_again (state_of g.F.Folder.state c.args.lookup.now)
     (state_of g.F.Folder.state c.look_again.new.lookup) c.as_slice.result.now c.in-Ok-true.field-0 c.in-Ok-true.field-0-test c.in-Ok-true.ensures.again)
@@ -115,12 +115,12 @@ returns-in-Ok-clause-footprint g c =
 pub returns-in-Err-clause-footprint : goal.returns-in-Err-clause-footprint
 returns-in-Err-clause-footprint g c =
     no_footprint (g.F.Folder.state c.args.lookup.now.folder.now) c.args.lookup.now.known.now
-    (node c.args.request.conditions.now c.args.request.parent.now c.args.request.specifier.now) c.fault_of.result
+    (node c.args.request.now.conditions.now c.args.request.now.parent.now c.args.request.now.specifier.now) c.fault_of.result
 
 pub returns-in-Err-keep_again-clause-footprint : goal.returns-in-Err-keep_again-clause-footprint
 returns-in-Err-keep_again-clause-footprint g c =
     no_footprint (g.F.Folder.state c.args.lookup.now.folder.now) c.args.lookup.now.known.now
-    (node c.args.request.conditions.now c.args.request.parent.now c.args.request.specifier.now) Memory
+    (node c.args.request.now.conditions.now c.args.request.now.parent.now c.args.request.now.specifier.now) Memory
 
 pub returns-in-Err-clause-still : goal.returns-in-Err-clause-still
 returns-in-Err-clause-still g c = λ other. stays_as (state_of g.F.Folder.state c.args.lookup.now) _ _ refl
@@ -157,3 +157,11 @@ returns-in-Ok-false-clause-still g c =
     let to = (seen_other (state_of g.F.Folder.state c.args.lookup.now)
     (state_of g.F.Folder.state c.look_again.new.lookup) c.as_slice.result.now c.in-Ok-false.field-0 c.in-Ok-false.field-0-test c.in-Ok-false.ensures.again) in
     λ other. stays_before (state_of g.F.Folder.state c.args.lookup.now) (state_of g.F.Folder.state c.look_again.new.lookup) _ to.answered _ _ (c.request_anew.ensures.still other)
+
+pub returns-in-Ok-false-clause-footprint : goal.returns-in-Ok-false-clause-footprint
+returns-in-Ok-false-clause-footprint g c =
+    let to = (seen_other (state_of g.F.Folder.state c.args.lookup.now)
+    (state_of g.F.Folder.state c.look_again.new.lookup) c.as_slice.result.now c.in-Ok-false.field-0 c.in-Ok-false.field-0-test c.in-Ok-false.ensures.again) in
+    footprint_behind (state_of g.F.Folder.state c.args.lookup.now) (state_of g.F.Folder.state c.look_again.new.lookup) _
+    (node c.args.request.now.conditions.now c.args.request.now.parent.now c.args.request.now.specifier.now)
+    c.request_anew.result to.answered c.request_anew.ensures.footprint

@@ -22,9 +22,9 @@ pub returns-in-Err-keep_request-clause-answered : goal.returns-in-Err-keep_reque
 returns-in-Err-keep_request-clause-answered g c =
     node_failing (begun_of g.F.Folder.state c.args.lookup.now)
     (state_of g.F.Folder.state c.keep_request.new.lookup)
-    (node c.args.request.conditions.now c.args.request.parent.now c.args.request.specifier.now) c.in-Err-keep_request.fault
+    (node c.args.request.now.conditions.now c.args.request.now.parent.now c.args.request.now.specifier.now) c.in-Err-keep_request.fault
     c.fault_of.result c.fault_of.ensures
-    (failed_behind (node c.args.request.conditions.now c.args.request.parent.now c.args.request.specifier.now) (Ok (module_of c.in-Ok.found))
+    (failed_behind (node c.args.request.now.conditions.now c.args.request.now.parent.now c.args.request.now.specifier.now) (Ok (module_of c.in-Ok.found))
     (state_of g.F.Folder.state c.args.lookup.now)
     (state_of g.F.Folder.state c.resolve.new.lookup)
     (state_of g.F.Folder.state c.keep_request.new.lookup) c.in-Ok.ensures.answered
@@ -36,26 +36,26 @@ returns-in-Err-keep_request-clause-answered g c =
 pub returns-in-Err-keep_request-clause-right : goal.returns-in-Err-keep_request-clause-right
 returns-in-Err-keep_request-clause-right g c =
     if_some {P = λ tree. (looks : List LookSeen) → AreLooksAt c.keep_request.new.lookup.known.now c.resolve.new.lookup.trail.now.question looks
-    → IsKept (node c.args.request.conditions.now c.args.request.parent.now c.args.request.specifier.now) (Ok (module_of c.in-Ok.found)) looks}
+    → IsKept (node c.args.request.now.conditions.now c.args.request.now.parent.now c.args.request.now.specifier.now) (Ok (module_of c.in-Ok.found)) looks}
     {Q = λ tree. AreRequests c.args.next.now → AreRequests c.keep_request.new.next}
     (g.F.Folder.state c.args.lookup.now.folder.now).holds
     (λ tree each right. c.keep_request.ensures.right
-    (λ looks are. kept_as c.args.next.now.names c.args.request.conditions.now c.args.request.parent.now c.args.request.specifier.now
+    (λ looks are. kept_as c.args.next.now.names c.args.request.now.conditions.now c.args.request.now.parent.now c.args.request.now.specifier.now
     c.args.key (Ok (module_of c.in-Ok.found)) looks c.requires.next c.requires.key (each looks are))
     c.in-Ok.ensures.footprint right)
     (kept_by c.some_sights.ensures (state_of g.F.Folder.state c.args.lookup.now)
     (state_of g.F.Folder.state c.resolve.new.lookup)
     (state_of g.F.Folder.state c.keep_request.new.lookup)
-    (node c.args.request.conditions.now c.args.request.parent.now c.args.request.specifier.now) (Ok (module_of c.in-Ok.found))
+    (node c.args.request.now.conditions.now c.args.request.now.parent.now c.args.request.now.specifier.now) (Ok (module_of c.in-Ok.found))
     (looked done c.keep_request.result) c.in-Ok.ensures.answered c.keep_request.ensures.answered)
 
 pub returns-in-Ok-keep_request-clause-answered : goal.returns-in-Ok-keep_request-clause-answered
 returns-in-Ok-keep_request-clause-answered g c =
     given_as (begun_of g.F.Folder.state c.args.lookup.now)
     (state_of g.F.Folder.state c.keep_request.new.lookup)
-    (node c.args.request.conditions.now c.args.request.parent.now c.args.request.specifier.now) (Ok (module_of c.in-Ok.found))
+    (node c.args.request.now.conditions.now c.args.request.now.parent.now c.args.request.now.specifier.now) (Ok (module_of c.in-Ok.found))
     (Ok (module_of c.in-Ok-keep_request.own.value)) (ap (λ f. Ok (module_of f)) c.in-Ok-keep_request.ensures.found)
-    (given_still (node c.args.request.conditions.now c.args.request.parent.now c.args.request.specifier.now) (Ok (module_of c.in-Ok.found))
+    (given_still (node c.args.request.now.conditions.now c.args.request.now.parent.now c.args.request.now.specifier.now) (Ok (module_of c.in-Ok.found))
     (state_of g.F.Folder.state c.args.lookup.now)
     (state_of g.F.Folder.state c.resolve.new.lookup)
     (state_of g.F.Folder.state c.keep_request.new.lookup) c.in-Ok.ensures.answered c.in-Ok-keep_request.ensures.answered)
@@ -63,35 +63,35 @@ returns-in-Ok-keep_request-clause-answered g c =
 pub returns-in-Ok-keep_request-clause-right : goal.returns-in-Ok-keep_request-clause-right
 returns-in-Ok-keep_request-clause-right g c =
     if_some {P = λ tree. (looks : List LookSeen) → AreLooksAt c.keep_request.new.lookup.known.now c.resolve.new.lookup.trail.now.question looks
-    → IsKept (node c.args.request.conditions.now c.args.request.parent.now c.args.request.specifier.now) (Ok (module_of c.in-Ok.found)) looks}
+    → IsKept (node c.args.request.now.conditions.now c.args.request.now.parent.now c.args.request.now.specifier.now) (Ok (module_of c.in-Ok.found)) looks}
     {Q = λ tree. AreRequests c.args.next.now → AreRequests c.keep_request.new.next}
     (g.F.Folder.state c.args.lookup.now.folder.now).holds
     (λ tree each right. c.keep_request.ensures.right
-    (λ looks are. kept_as c.args.next.now.names c.args.request.conditions.now c.args.request.parent.now c.args.request.specifier.now
+    (λ looks are. kept_as c.args.next.now.names c.args.request.now.conditions.now c.args.request.now.parent.now c.args.request.now.specifier.now
     c.args.key (Ok (module_of c.in-Ok.found)) looks c.requires.next c.requires.key (each looks are))
     c.in-Ok.ensures.footprint right)
     (kept_by c.some_sights.ensures (state_of g.F.Folder.state c.args.lookup.now)
     (state_of g.F.Folder.state c.resolve.new.lookup)
     (state_of g.F.Folder.state c.keep_request.new.lookup)
-    (node c.args.request.conditions.now c.args.request.parent.now c.args.request.specifier.now) (Ok (module_of c.in-Ok.found))
+    (node c.args.request.now.conditions.now c.args.request.now.parent.now c.args.request.now.specifier.now) (Ok (module_of c.in-Ok.found))
     (looked done c.keep_request.result) c.in-Ok.ensures.answered c.keep_request.ensures.answered)
 
 pub returns-in-Ok-keep_request-clause-footprint : goal.returns-in-Ok-keep_request-clause-footprint
 returns-in-Ok-keep_request-clause-footprint g c =
     footprint_anew (state_of g.F.Folder.state c.args.lookup.now)
     (state_of g.F.Folder.state c.resolve.new.lookup)
-    (node c.args.request.conditions.now c.args.request.parent.now c.args.request.specifier.now) (Ok (module_of c.in-Ok.found)) c.in-Ok.found
+    (node c.args.request.now.conditions.now c.args.request.now.parent.now c.args.request.now.specifier.now) (Ok (module_of c.in-Ok.found)) c.in-Ok.found
     c.in-Ok-keep_request.own c.in-Ok-keep_request.ensures.found c.in-Ok.ensures.footprint c.in-Ok.ensures.answered
 
 pub returns-in-Err-clause-footprint : goal.returns-in-Err-clause-footprint
 returns-in-Err-clause-footprint g c =
     no_footprint (g.F.Folder.state c.args.lookup.now.folder.now) c.args.lookup.now.known.now
-    (node c.args.request.conditions.now c.args.request.parent.now c.args.request.specifier.now) c.in-Err.fault
+    (node c.args.request.now.conditions.now c.args.request.now.parent.now c.args.request.now.specifier.now) c.in-Err.fault
 
 pub returns-in-Err-keep_request-clause-footprint : goal.returns-in-Err-keep_request-clause-footprint
 returns-in-Err-keep_request-clause-footprint g c =
     no_footprint (g.F.Folder.state c.args.lookup.now.folder.now) c.args.lookup.now.known.now
-    (node c.args.request.conditions.now c.args.request.parent.now c.args.request.specifier.now) c.fault_of.result
+    (node c.args.request.now.conditions.now c.args.request.now.parent.now c.args.request.now.specifier.now) c.fault_of.result
 
 pub returns-in-Err-clause-still : goal.returns-in-Err-clause-still
 returns-in-Err-clause-still g c = λ other. stays_as (state_of g.F.Folder.state c.args.lookup.now) _ _ refl
@@ -105,7 +105,7 @@ returns-in-Ok-keep_request-clause-kept g c =
     now_put (state_of g.F.Folder.state c.args.lookup.now) is_request c.args.key c.in-Ok-keep_request.ensures.set.looks (request_looks c.args.next.now)
     (request_looks c.keep_request.new.next) c.in-Ok-keep_request.ensures.set.set
     (anew_now (state_of g.F.Folder.state c.args.lookup.now) (state_of g.F.Folder.state c.resolve.new.lookup)
-    (state_of g.F.Folder.state c.keep_request.new.lookup) (node c.args.request.conditions.now c.args.request.parent.now c.args.request.specifier.now) (Ok (module_of c.in-Ok.found)) c.in-Ok-keep_request.ensures.set.looks
+    (state_of g.F.Folder.state c.keep_request.new.lookup) (node c.args.request.now.conditions.now c.args.request.now.parent.now c.args.request.now.specifier.now) (Ok (module_of c.in-Ok.found)) c.in-Ok-keep_request.ensures.set.looks
     c.in-Ok.ensures.answered c.in-Ok-keep_request.ensures.answered c.in-Ok-keep_request.ensures.set.are.each)
     c.args.key (same_request c.args.key)
 
@@ -114,5 +114,5 @@ returns-in-Ok-keep_request-clause-still g c =
     stays_put (state_of g.F.Folder.state c.args.lookup.now) is_request c.args.key c.in-Ok-keep_request.ensures.set.looks (request_looks c.args.next.now)
     (request_looks c.keep_request.new.next) c.in-Ok-keep_request.ensures.set.set
     (anew_now (state_of g.F.Folder.state c.args.lookup.now) (state_of g.F.Folder.state c.resolve.new.lookup)
-    (state_of g.F.Folder.state c.keep_request.new.lookup) (node c.args.request.conditions.now c.args.request.parent.now c.args.request.specifier.now) (Ok (module_of c.in-Ok.found)) c.in-Ok-keep_request.ensures.set.looks
+    (state_of g.F.Folder.state c.keep_request.new.lookup) (node c.args.request.now.conditions.now c.args.request.now.parent.now c.args.request.now.specifier.now) (Ok (module_of c.in-Ok.found)) c.in-Ok-keep_request.ensures.set.looks
     c.in-Ok.ensures.answered c.in-Ok-keep_request.ensures.answered c.in-Ok-keep_request.ensures.set.are.each)

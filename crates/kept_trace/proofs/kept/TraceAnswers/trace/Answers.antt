@@ -7,7 +7,7 @@ use Rattle.request_trace.specs.Footprints.{IsFootprint}
 use Rattle.request_trace.specs.Showing.{Traced, gathered_of}
 use Rattle.request_trace.specs.Tracing.{Traces}
 use Rattle.request_trace.proofs.JoinedTables.{traces_lost, as_trace, takes_trace}
-use Rattle.kept_trace.proofs.tracing.Answers.trace.Goals as goal
+use Rattle.kept_trace.proofs.kept.TraceAnswers.trace.Goals as goal
 
 pub tables_again-requires-clause-ready : goal.tables_again-requires-clause-ready
 tables_again-requires-clause-ready g c = c.requires.ready
