@@ -74,7 +74,7 @@ impl<L: Ledger> Packages<L> {
         let Ok(path) = Path::parse(alloc, path) else {
             return said.push("no path");
         };
-        let mut lookup = self.site.lookup();
+        let mut lookup = self.site.lookup(alloc);
         push_format(&format_of(&mut lookup, &path), said);
     }
 
@@ -83,7 +83,7 @@ impl<L: Ledger> Packages<L> {
         let Ok(path) = Path::parse(alloc, path) else {
             return said.push("no path");
         };
-        let mut lookup = self.site.lookup();
+        let mut lookup = self.site.lookup(alloc);
         push_scope(&scope_of(&mut lookup, &path), said);
     }
 
@@ -96,7 +96,7 @@ impl<L: Ledger> Packages<L> {
         specifier: &str,
         said: &mut Said,
     ) {
-        let mut lookup = self.site.lookup();
+        let mut lookup = self.site.lookup(alloc);
         let answer = resolve(
             &mut lookup,
             &asker.from,

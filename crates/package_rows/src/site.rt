@@ -23,7 +23,7 @@ impl Site {
     }
 
     /// The tree, what is known of it and the trail, to be asked by.
-    pub fn lookup(&mut self) -> Lookup<'_, MemFolder> {
+    pub fn lookup(&mut self, alloc: Global) -> Lookup<'_, MemFolder> {
         Lookup {
             alloc,
             known: &mut self.known,
