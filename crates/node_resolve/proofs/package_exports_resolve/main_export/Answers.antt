@@ -8,12 +8,12 @@ use Rattle.node_resolve.proofs.package_exports_resolve.main_export.Goals as goal
 
 pub returns-in-Text : goal.returns-in-Text
 returns-in-Text c =
-    gives_as itself _ _ c.export_target.result (main_text c.args.conditions.now c.args.package_folder.now (json_of c.args.exports.now.value) _ (ap json_of c.in-Text.is ∙ json_of_text _)) c.export_target.ensures
+    gives_as itself _ _ c.whole_export.result (main_text c.args.conditions.now c.args.package_folder.now (json_of c.args.exports.now.value) _ (ap json_of c.in-Text.is ∙ json_of_text _)) c.whole_export.ensures
 
 pub returns-in-List : goal.returns-in-List
 returns-in-List c =
-    gives_as itself _ _ c.export_target-in-List.result (main_list c.args.conditions.now c.args.package_folder.now (json_of c.args.exports.now.value) _ (ap json_of c.in-List.is ∙ json_of_list _))
-    c.export_target-in-List.ensures
+    gives_as itself _ _ c.whole_export-in-List.result (main_list c.args.conditions.now c.args.package_folder.now (json_of c.args.exports.now.value) _ (ap json_of c.in-List.is ∙ json_of_list _))
+    c.whole_export-in-List.ensures
 
 pub returns-then-has_dotted : goal.returns-then-has_dotted
 returns-then-has_dotted c =
@@ -22,5 +22,5 @@ returns-then-has_dotted c =
 
 pub returns-else-has_dotted : goal.returns-else-has_dotted
 returns-else-has_dotted c =
-    gives_as itself _ _ c.export_target-else-has_dotted.result (main_plain c.args.conditions.now c.args.package_folder.now (json_of c.args.exports.now.value) _ (ap json_of c.in-Object.is ∙ json_of_object _)
-    (sym (c.requires.indexed _ (ap json_of c.in-Object.is ∙ json_of_object _)).has_dotted ∙ c.if-has_dotted.false)) c.export_target-else-has_dotted.ensures
+    gives_as itself _ _ c.whole_export-else-has_dotted.result (main_plain c.args.conditions.now c.args.package_folder.now (json_of c.args.exports.now.value) _ (ap json_of c.in-Object.is ∙ json_of_object _)
+    (sym (c.requires.indexed _ (ap json_of c.in-Object.is ∙ json_of_object _)).has_dotted ∙ c.if-has_dotted.false)) c.whole_export-else-has_dotted.ensures

@@ -1,0 +1,17 @@
+use Rattle.std.proofs.Common.{refl}
+use Rattle.ordered_json.proofs.IsJsonLemmas.{json_of_null, json_of_bool}
+use Rattle.condition_match.proofs.ReduceLemmas.{behind_none, behind_some}
+use Rattle.condition_match.proofs.reducing.behind.Goals as goal
+
+pub returns-in-Undefined : goal.returns-in-Undefined
+returns-in-Undefined c = λ none. behind_none c.args.first c.args.back.items c.in-Undefined.is (none c.in-Undefined.is)
+
+pub returns-in-Null : goal.returns-in-Null
+returns-in-Null c = λ none. behind_some _ c.args.first _ _ c.args.back.items c.in-Null.is (λ e. cc) json_of_null c.in_ok-all.ensures
+
+pub returns-in-InvalidTarget : goal.returns-in-InvalidTarget
+returns-in-InvalidTarget c = λ none.
+    behind_some _ c.args.first _ _ c.args.back.items c.in-InvalidTarget.is (λ e. cc) (json_of_bool _) c.in_ok-all-in-InvalidTarget.ensures
+
+pub returns-in-As : goal.returns-in-As
+returns-in-As c = λ none. behind_some _ c.args.first _ _ c.args.back.items c.in-As.is (λ e. cc) refl c.in_ok-all-in-As.ensures
