@@ -1,6 +1,6 @@
 -- What is found in the index is the choice among the keys.
 use Rattle.std.proofs.Common.{◌≡◌, ◌≢◌, ◌<◌, ◌≤◌, ◌+◌, ◌-◌, ◌++◌, ◌∷◌, ℕ, zero, suc, true, false, List, [], length, take, Some, None, refl, sym, ap, ◌∙◌, subst, arith, length-append, append_assoc}
-use Rattle.std.specs.Prelude.{min, Option, IfSome, MatchOption, reverse, slice_get, slice_index_or, IsUtf8}
+use Rattle.std.specs.Prelude.{min, Option, Result, Ok, Err, IfOk, IfSome, MatchOption, reverse, slice_get, slice_index_or, IsUtf8}
 use Rattle.std.specs.List.{Contains}
 use Rattle.std.specs.Map.{keys_of}
 use Rattle.std.proofs.lemmas.List.{append-nil, reverse-append, reverse-reverse, length-reverse, length-take, append_cancel_left, take_at}
@@ -345,3 +345,22 @@ module _ (names : List (List ℕ)) (exact : List (List ℕ × ℕ)) (patterns : 
   pub spanned : NoKey → IsUtf8 asked → (found : Option Match) → MatchOption found (IsTried asked patterns 0) (IsBestFitting asked patterns) → IfSome found (HasSpan asked)
   spanned no_key u None tried = tt
   spanned no_key u (Some found) best = pattern_span no_key u found best
+
+-- ---- what is said of whatever keys an index is of
+
+pub at_names : {X E : Type 0} (Is : List (List ℕ) → Type 0) (Says : List (List ℕ) → X → Type 0) (result : Result X E) (names : List (List ℕ))
+    → Is names → IfOk result (λ x. (ns : List (List ℕ)) → Is ns → Says ns x) → IfOk result (Says names)
+at_names Is Says (Ok x) names is says = says names is
+at_names Is Says (Err fault) names is says = tt
+
+pub place_few : (names : List (List ℕ)) (asked : List ℕ) (result : Option ℕ)
+    → MatchOption result ((place : ℕ) → slice_get names place ≡ Some asked → ⊥) (λ place. slice_get names place ≡ Some asked)
+    → MatchOption result ((place : ℕ) → HasNoStar asked → slice_get names place ≡ Some asked → ⊥) (λ place. slice_get names place ≡ Some asked)
+place_few names asked None none = λ place n e. none place e
+place_few names asked (Some place) there = there
+
+pub place_there : (names : List (List ℕ)) (asked : List ℕ) (result : Option ℕ)
+    → MatchOption result ((place : ℕ) → HasNoStar asked → slice_get names place ≡ Some asked → ⊥) (λ place. (slice_get names place ≡ Some asked) × HasNoStar asked)
+    → MatchOption result ((place : ℕ) → HasNoStar asked → slice_get names place ≡ Some asked → ⊥) (λ place. slice_get names place ≡ Some asked)
+place_there names asked None none = none
+place_there names asked (Some place) there = there.0

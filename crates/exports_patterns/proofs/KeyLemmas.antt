@@ -59,7 +59,7 @@ no_key [] i e = omega arith
 no_key (other ∷ pairs) zero e = absurd (cc)
 no_key (other ∷ pairs) (suc i) e = let past = no_key pairs i e in omega (arith, past)
 
-names_length : (pairs : List (List ℕ × Value)) → length (names_of (members_of pairs)) ≡ length pairs
+pub names_length : (pairs : List (List ℕ × Value)) → length (names_of (members_of pairs)) ≡ length pairs
 names_length [] = refl
 names_length (pair ∷ pairs) = ap suc (names_length pairs)
 

@@ -3,3 +3,4 @@ mod SameMatch
 mod FrontLemmas
 mod GatherLemmas
 mod ChoiceLemmas
+mod FewLemmas

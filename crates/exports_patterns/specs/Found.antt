@@ -1,14 +1,15 @@
 -- The key that is found, in the words of the choice among keys.
 --     keys_of members      the keys of an object's members, in order
 --     IsFound keys asked found      the match stands for the choice among these keys, at a place where that key is
+--     Finds keys asked result      so does what is found, if anything is
 --     HasSpan asked found      the span of the match may be cut out of the text
-use Rattle.std.specs.Prelude.{◌≡◌, ◌≤◌, ℕ, List, slice_get, Some, if◌then◌else◌, true}
+use Rattle.std.specs.Prelude.{◌≡◌, ◌≤◌, ℕ, List, slice_get, Option, Some, MatchOption, if◌then◌else◌, true}
 use Rattle.std.specs.Str.{IsCharBoundary}
 use Rattle.json_spec.specs.Value.{names_of}
 use Rattle.ordered_json.specs.declared.value.Members.{Members}
 use Rattle.ordered_json.specs.Lists.{pairs_of}
 use Rattle.ordered_json.specs.Shown.{members_of}
-use Rattle.node_spec.specs.PatternKeys.{KeyMatch, Itself, PatternMatch, Matches, IsChoice}
+use Rattle.node_spec.specs.PatternKeys.{KeyMatch, Itself, PatternMatch, Matches, IsChoice, MatchesNone}
 use Rattle.exports_patterns.specs.declared.pattern_keys.Match.{Match}
 
 abbrev pub keys_of : Members → List (List ℕ)
@@ -27,6 +28,10 @@ pub record IsFound (keys : List (List ℕ)) (asked : List ℕ) (found : Match) :
   pub stands : slice_get keys found.index ≡ Some key
   pub chosen : IsChoice keys asked key (match_shown found)
   pub no_span : found.exact ≡ true → (found.from ≡ 0) × (found.to ≡ 0)
+
+-- what is found among these keys
+abbrev pub Finds : List (List ℕ) → List ℕ → Option Match → Type 0
+Finds keys asked result = MatchOption result (MatchesNone keys asked) (IsFound keys asked)
 
 pub record HasSpan (asked : List ℕ) (found : Match) : Type 0 where
   pub ordered : found.from ≤ found.to

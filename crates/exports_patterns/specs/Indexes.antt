@@ -1,10 +1,12 @@
 -- The index of a list of keys.
 --     IsPart names base back place      the name at this place is the pattern with this base, and this trailer, told
 --         from its last byte
---     IsIndex names keys      the keys without a star and the patterns among the names are those of the index
-use Rattle.std.specs.Prelude.{◌≡◌, ℕ, List, ◌∷◌, ◌++◌, reverse, slice_get, Some, IsUtf8}
+--     IsKeyIndex names index      the keys without a star and the patterns among the names are those of the index
+--     IsIndex names keys      so it is, where there is an index
+use Rattle.std.specs.Prelude.{◌≡◌, ℕ, List, ◌∷◌, ◌++◌, reverse, slice_get, Some, IfSome, IsUtf8}
 use Rattle.std.specs.List.{Contains}
 use Rattle.node_spec.specs.PatternKeys.{HasNoStar}
+use Rattle.exports_patterns.specs.declared.keys.KeyIndex.{KeyIndex}
 use Rattle.exports_patterns.specs.declared.keys.Keys.{Keys}
 
 -- the patterns with one base: what stands after the star, the last byte first, and the places
@@ -33,5 +35,8 @@ pub record IsIndexOf (names : List (List ℕ)) (exact : List (List ℕ × ℕ)) 
       (base back : List ℕ) (place : ℕ) (group : Group) → slice_get names place ≡ Some (base ++ 42 ∷ reverse back)
       → HasNoStar base → HasNoStar (reverse back) → Contains patterns (base, group) → Contains group (back, place)
 
+abbrev pub IsKeyIndex : List (List ℕ) → KeyIndex → Type 0
+IsKeyIndex names index = IsIndexOf names index.exact index.patterns
+
 abbrev pub IsIndex : List (List ℕ) → Keys → Type 0
-IsIndex names keys = IsIndexOf names keys.exact keys.patterns
+IsIndex names keys = IfSome keys.index (IsKeyIndex names)

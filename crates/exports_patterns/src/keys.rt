@@ -7,7 +7,7 @@ ghost use Rattle.std.specs.BTreeMap.{IsOrdered};
 ghost use Rattle.ordered_json.specs.Lists.{pairs_of};
 ghost use Rattle.ordered_json.specs.Shown.{members_of};
 ghost use Rattle.exports_patterns.specs.Found.{keys_of};
-ghost use Rattle.exports_patterns.specs.Indexes.{IsIndex};
+ghost use Rattle.exports_patterns.specs.Indexes.{IsIndex, IsKeyIndex};
 ghost use Rattle.exports_patterns.specs.Gathering.{HasGathered, HasGrouped, PutsPattern};
 
 use crate::fronts::Fronts;
@@ -17,9 +17,18 @@ use shared_types::{Bytes, Listed, Memory, Text};
 use std::alloc::Global;
 use std::collections::BTreeMap;
 
-/// The keys of an object and their places, without those that have more than one star, which match nothing.
+/// How many keys are looked at one after another. More are indexed.
+const FEW: usize = 8;
+
+/// The keys of an object, indexed where they are many.
 #[derive(Drop)]
 pub struct Keys {
+    pub(crate) index: Option<KeyIndex>,
+}
+
+/// The keys of an object and their places, without those that have more than one star, which match nothing.
+#[derive(Drop)]
+pub(crate) struct KeyIndex {
     /// The keys without a star.
     pub(crate) exact: Fronts<usize>,
     /// The patterns by what stands before the star, and then by what stands after it, the last byte first.
@@ -39,8 +48,18 @@ pub(crate) struct Gathered {
 pub fn keys_in(alloc: Global, members: &Members) -> Result<Keys, Memory>
     ensures { IfOk result (IsIndex (keys_of members.now)) }
 {
+    if members.len() <= FEW {
+        return Ok(Keys { index: None });
+    }
+    let index = indexed(alloc, members)?;
+    Ok(Keys { index: Some(index) })
+}
+
+fn indexed(alloc: Global, members: &Members) -> Result<KeyIndex, Memory>
+    ensures { IfOk result (IsKeyIndex (keys_of members.now)) }
+{
     let Gathered { exact, groups } = gather(alloc, members)?;
-    Ok(Keys {
+    Ok(KeyIndex {
         exact: Fronts::of(alloc, exact)?,
         patterns: Fronts::of(alloc, in_order(alloc, groups)?)?,
     })
@@ -62,7 +81,8 @@ fn gather(alloc: Global, members: &Members) -> Result<Gathered, Memory>
     Ok(gathered)
 }
 
-fn key_at(keys: &Members, index: usize) -> Option<&str>
+/// The key at a place.
+pub(crate) fn key_at(keys: &Members, index: usize) -> Option<&str>
     ensures { MatchOption result (length (keys_of keys.now) ≤ index)
         (λ name. slice_get (keys_of keys.now) index ≡ Some name.now) }
 {

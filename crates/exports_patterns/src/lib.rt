@@ -3,6 +3,7 @@
 
 ghost use Rattle.exports_patterns.specs.OneFound.{OneFound};
 
+mod few;
 mod fronts;
 mod keys;
 mod parts;

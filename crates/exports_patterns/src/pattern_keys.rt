@@ -1,14 +1,16 @@
 ghost use Rattle.std.specs.Prelude.{◌≡◌, ◌≤◌, List, ℕ, length, take, reverse, slice_get, Some};
 ghost use Rattle.std.specs.Prelude.{IfOk, IfSome, MatchOption};
-ghost use Rattle.node_spec.specs.PatternKeys.{HasNoStar, MatchesNone, StartsWith};
+ghost use Rattle.node_spec.specs.PatternKeys.{HasNoStar, StartsWith};
 ghost use Rattle.exports_patterns.specs.Fitting.{NoneFits, IsFitting, IsBestFitting, IsTried};
-ghost use Rattle.exports_patterns.specs.Found.{HasSpan, IsFound};
+ghost use Rattle.exports_patterns.specs.Found.{keys_of, Finds, HasSpan};
 ghost use Rattle.exports_patterns.specs.Fronts.{StandsAt};
-ghost use Rattle.exports_patterns.specs.Indexes.{Group, IsIndex};
+ghost use Rattle.exports_patterns.specs.Indexes.{Group, IsIndex, IsKeyIndex};
 
+use crate::few::{best_of_few, place_of_few};
 use crate::fronts::Fronts;
-use crate::keys::Keys;
+use crate::keys::{KeyIndex, Keys};
 use crate::parts::reversed;
+use ordered_json::Members;
 use shared_types::Memory;
 use std::alloc::Global;
 
@@ -27,13 +29,42 @@ pub struct Match {
 
 /// The key that matches a text and that no other matching key precedes (Node.js, ECMAScript modules:
 /// PACKAGE_IMPORTS_EXPORTS_RESOLVE). None where no key matches.
-pub fn best_match(alloc: Global, keys: &Keys, asked: &str) -> Result<Option<Match>, Memory>
-    ensures choice { IfOk result (λ found. (names : List (List ℕ)) → IsIndex names keys.now
-        → MatchOption found (MatchesNone names asked.now) (IsFound names asked.now)) }
-    ensures span { IfOk result (λ found. (names : List (List ℕ)) → IsIndex names keys.now
+pub fn best_match(
+    alloc: Global,
+    keys: &Keys,
+    members: &Members,
+    asked: &str,
+) -> Result<Option<Match>, Memory>
+    requires { IsIndex (keys_of members.now) keys.now }
+    ensures choice { IfOk result (Finds (keys_of members.now) asked.now) }
+    ensures span { IfOk result (λ found. IfSome found (HasSpan asked.now)) }
+{
+    match &keys.index {
+        None => Ok(best_of_few(members, asked)),
+        Some(index) => best_indexed(alloc, index, asked),
+    }
+}
+
+/// The place of the key that is this text and no pattern.
+pub fn place_of(keys: &Keys, members: &Members, asked: &str) -> Option<usize>
+    requires { IsIndex (keys_of members.now) keys.now }
+    ensures { MatchOption result
+        ((place : ℕ) → HasNoStar asked.now → slice_get (keys_of members.now) place ≡ Some asked.now → ⊥)
+        (λ place. slice_get (keys_of members.now) place ≡ Some asked.now) }
+{
+    match &keys.index {
+        None => place_of_few(members, asked),
+        Some(index) => place_in(index, asked),
+    }
+}
+
+fn best_indexed(alloc: Global, keys: &KeyIndex, asked: &str) -> Result<Option<Match>, Memory>
+    ensures choice { IfOk result (λ found. (names : List (List ℕ)) → IsKeyIndex names keys.now
+        → Finds names asked.now found) }
+    ensures span { IfOk result (λ found. (names : List (List ℕ)) → IsKeyIndex names keys.now
         → IfSome found (HasSpan asked.now)) }
 {
-    if let Some(index) = place_of(keys, asked) {
+    if let Some(index) = place_in(keys, asked) {
         return Ok(Some(Match {
             index,
             exact: true,
@@ -45,9 +76,8 @@ pub fn best_match(alloc: Global, keys: &Keys, asked: &str) -> Result<Option<Matc
     Ok(best_pattern(&keys.patterns, asked, back.as_bytes()))
 }
 
-/// The place of the key that is this text and no pattern.
-pub fn place_of(keys: &Keys, asked: &str) -> Option<usize>
-    ensures { (names : List (List ℕ)) → IsIndex names keys.now → MatchOption result
+fn place_in(keys: &KeyIndex, asked: &str) -> Option<usize>
+    ensures { (names : List (List ℕ)) → IsKeyIndex names keys.now → MatchOption result
         ((place : ℕ) → HasNoStar asked.now → slice_get names place ≡ Some asked.now → ⊥)
         (λ place. (slice_get names place ≡ Some asked.now) × HasNoStar asked.now) }
 {

@@ -137,7 +137,7 @@ fn dot_of<'a>(
         (λ target. ComesAs conditions.now false (field (codes ".") (members_of (pairs_of members.now)))
         (json_of target.now)) }
 {
-    match place_of(&exports.index.keys, ".") {
+    match place_of(&exports.index.keys, members, ".") {
         None => None,
         Some(place) => match members.at(place) {
             None => None,

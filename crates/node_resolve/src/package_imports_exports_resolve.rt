@@ -33,7 +33,7 @@ pub fn target_of<'a, 'b>(
         (λ found. IsLeftTarget conditions.now imports (members_of (pairs_of members.now)) asked.now
         (json_of found.0.now) (option_map (λ part. part.now) found.1))) }
 {
-    match best_match(alloc, &subpaths.index.keys, asked) {
+    match best_match(alloc, &subpaths.index.keys, members, asked) {
         Err(fault) => Err(fault),
         Ok(None) => Ok(None),
         Ok(Some(found)) => match members.at(found.index) {

@@ -1,6 +1,6 @@
 use Rattle.exports_patterns.specs.Found.{keys_of}
 use Rattle.exports_patterns.proofs.GatherLemmas.{index_from}
-use Rattle.exports_patterns.proofs.keys.keys_in.Goals as goal
+use Rattle.exports_patterns.proofs.keys.indexed.Goals as goal
 
 pub returns : goal.returns
 returns c =
