@@ -17,4 +17,4 @@ pub use choice::choose;
 pub use conditions::{Conditions, ConditionsFault};
 pub use laws::calls_keep;
 pub use node_spec::{BareAnswer, Outcome};
-pub use reducing::reduced;
+pub use reducing::reduced_target;

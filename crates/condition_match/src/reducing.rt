@@ -39,7 +39,7 @@ pub(crate) struct Left {
 /// What is left of a target under these conditions, whatever stands for `*`: of an object the value of the member that
 /// is taken, of a list the items that may decide it. It comes to what the target comes to, by a way that is no longer
 /// than the texts among its items.
-pub fn reduced(
+pub fn reduced_target(
     alloc: Global,
     target: &Value,
     conditions: &Conditions,

@@ -5,7 +5,7 @@ ghost use Rattle.ordered_json.specs.Lists.{pairs_of};
 ghost use Rattle.ordered_json.specs.Shown.{json_of};
 ghost use Rattle.package_record.specs.Targets.{AreLeft, AreLeftOf, IsLeftOf};
 
-use condition_match::{Conditions, reduced};
+use condition_match::{Conditions, reduced_target};
 use ordered_json::{Text, Value};
 use shared_types::Memory;
 use std::alloc::Global;
@@ -30,7 +30,7 @@ pub(crate) fn left_of(
 ) -> Result<LeftTargets, Memory>
     ensures { IfOk result (IsLeftOf imports value.now) }
 {
-    let whole = reduced(alloc, value, conditions, imports)?;
+    let whole = reduced_target(alloc, value, conditions, imports)?;
     let targets = targets_of(alloc, value, conditions, imports)?;
     let conditions = conditions.copy(alloc)?;
     Ok(LeftTargets {
@@ -68,7 +68,7 @@ fn each_left(
 {
     let mut made = Vec::with_capacity(alloc, pairs.len())?;
     for pair in pairs {
-        let target = reduced(alloc, &pair.1, conditions, imports)?;
+        let target = reduced_target(alloc, &pair.1, conditions, imports)?;
         made.push(target)?;
     }
     Ok(made)

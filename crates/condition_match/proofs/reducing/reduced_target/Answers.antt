@@ -1,7 +1,7 @@
 use Rattle.std.proofs.Common.{sym, subst}
 use Rattle.ordered_json.specs.Shown.{json_of}
 use Rattle.condition_match.specs.Reducing.{ComesAs}
-use Rattle.condition_match.proofs.reducing.reduced.Goals as goal
+use Rattle.condition_match.proofs.reducing.reduced_target.Goals as goal
 
 pub returns : goal.returns
 returns c =
