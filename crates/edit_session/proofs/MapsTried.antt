@@ -1,13 +1,12 @@
 -- A generation over looks that are laid for it.
 use Rattle.std.proofs.Common.{◌≡◌, ℕ, List, Some, Result, Ok, Err, IfSome, sym, ap, ◌∙◌, subst}
 use Rattle.std.specs.FinMap.{get}
-use Rattle.std.specs.Prelude.{Contains}
-use Rattle.tree_spec.specs.LookAskings.{Sights, footprint}
+use Rattle.tree_spec.specs.LookAskings.{Sights}
 use Rattle.tree_spec.specs.LookLimits.{no_trail}
 use Rattle.tree_spec.specs.States.{FolderState}
 use Rattle.tree_spec.specs.Trees.{Tree}
+use Rattle.trace_spec.specs.Laws.{IsLookedAt}
 use Rattle.trace_spec.specs.Modules.{Config}
-use Rattle.trace_spec.specs.Traces.{generation}
 use Rattle.config_spec.specs.declared.Command.{Command}
 use Rattle.config_spec.specs.declared.Command.TheVariants.{Refresh}
 use Rattle.generator_spec.specs.Commands.{IsGenerating, Opens, Refuses, nothing, refresh}
@@ -61,11 +60,11 @@ module _ (before after : FolderState) (known under learnt later : Known) (config
 
   footprint_so : (path : List ℕ) (tree : Tree) → before.holds ≡ Some tree
       → IsOfFootprint (config_with config entries) before under path → (seen : Tree) → StandsBehind tree known
-      → IsLaid tree over seen → Contains (footprint (get seen) (generation (config_with config entries))) path
+      → IsLaid tree over seen → IsLookedAt (get seen) (config_with config entries) path
   footprint_so path tree e is seen behind laid =
       some_told
       (λ tree. (sights : Sights) → Sees tree under sights
-      → Contains (footprint sights (generation (config_with config entries))) path)
+      → IsLookedAt sights (config_with config entries) path)
       before.holds tree e is (get seen) (sees_so tree seen behind laid)
 
   abbrev MadeSo : Result Generated Stop → Type 0
@@ -74,7 +73,7 @@ module _ (before after : FolderState) (known under learnt later : Known) (config
   abbrev Looked : Tree → List ℕ → Type 0
   Looked tree path =
       (seen : Tree) → StandsBehind tree known → IsLaid tree over seen
-      → Contains (footprint (get seen) (generation (config_with config entries))) path
+      → IsLookedAt (get seen) (config_with config entries) path
 
   abbrev LooksSo : Result Generated Stop → Type 0
   LooksSo result = LooksOn before known after later (result ≡ Err ReadFault) (result ≡ Err Memory) Looked

@@ -2,17 +2,17 @@
 use Rattle.std.proofs.Common.{◌≡◌, ◌++◌, [], ℕ, List, Option, Some, None, Result, Ok, Err, IfSome, refl, sym, ap, ◌∙◌, subst, arith}
 use Rattle.std.specs.FinMap.{get}
 use Rattle.std.specs.HashMap as map
-use Rattle.std.specs.Prelude.{◌==◌, ◌∷◌, All, Contains, true, is_some, bytes_eq, length, ⊤}
+use Rattle.std.specs.Prelude.{◌==◌, ◌∷◌, All, true, is_some, bytes_eq, length, ⊤}
 use Rattle.std.proofs.lemmas.Bool.Decides.{Decides-eqb}
 use Rattle.std.proofs.lemmas.List.{append_cancel_left}
 use Rattle.std.proofs.lemmas.List.Elements.{All-weaker}
-use Rattle.tree_spec.specs.LookAskings.{Sights, footprint}
+use Rattle.tree_spec.specs.LookAskings.{Sights}
 use Rattle.tree_spec.specs.LookLimits.{no_trail}
 use Rattle.tree_spec.specs.States.{FolderState}
 use Rattle.tree_spec.specs.Trees.{Tree, IsTree}
 use Rattle.tree_spec.proofs.ToldStates.{if_some}
+use Rattle.trace_spec.specs.Laws.{IsLookedAt}
 use Rattle.trace_spec.specs.Modules.{Config}
-use Rattle.trace_spec.specs.Traces.{generation}
 use Rattle.config_spec.specs.declared.Command.{Command}
 use Rattle.config_spec.specs.declared.Command.TheVariants.{Refresh}
 use Rattle.generator_spec.specs.Commands.{IsGenerating, IsRefusalOf, Opens, Refuses, nothing, refresh}
@@ -357,9 +357,9 @@ module _ (config : Config) (before after : FolderState) (known later : Known)
       (λ old. AsksOnce old (state before known no_trail) (state after later no_trail) unfinished (IsOfFootprint config before known))
       before.asked old e learns.asked in
       let among = subst (λ paths. All (IsOfFootprint config before known) paths) (same_more old once.more more (sym once.asked ∙ asked)) once.among in
-      all_told (λ tree. All (Contains (footprint (get tree) (generation config))) more) before.holds
-      (λ tree there. All-weaker (IsOfFootprint config before known) (Contains (footprint (get tree) (generation config)))
-      (λ path is. some_told (λ tree. (sights : Sights) → Sees tree known sights → Contains (footprint sights (generation config)) path)
+      all_told (λ tree. All (IsLookedAt (get tree) config) more) before.holds
+      (λ tree there. All-weaker (IsOfFootprint config before known) (IsLookedAt (get tree) config)
+      (λ path is. some_told (λ tree. (sights : Sights) → Sees tree known sights → IsLookedAt sights config path)
       before.holds tree there is (get tree) (sees_tree tree)) more among))
 
   asks_kept : (unfinished : Type 0) → (unfinished → ⊥) → LearnsSo unfinished → IfSome before.asked (λ old. AsksKept old after later)

@@ -2,11 +2,10 @@
 use Rattle.std.proofs.Common.{◌≡◌, ℕ, List, Some, Result, Ok, Err, refl, sym, ap, ◌∙◌, subst}
 use Rattle.std.specs.FinMap.{get}
 use Rattle.std.specs.Prelude.{Contains}
-use Rattle.tree_spec.specs.LookAskings.{footprint}
 use Rattle.tree_spec.specs.States.{FolderState}
 use Rattle.tree_spec.specs.Trees.{Tree}
+use Rattle.trace_spec.specs.Laws.{IsLookedAt}
 use Rattle.trace_spec.specs.Modules.{Config}
-use Rattle.trace_spec.specs.Traces.{generation}
 use Rattle.config_spec.specs.declared.Command.TheVariants.{Refresh}
 use Rattle.generator_spec.specs.Commands.{Refuses, IsRefusalOf}
 use Rattle.package_lookup.specs.declared.over.Over.{Over}
@@ -62,7 +61,7 @@ module _ (before after : FolderState) (old new : Parts) (over left : Over) (entr
   abbrev Asked : Tree → List ℕ → Type 0
   Asked tree path =
       (seen : Tree) → StandsBehind tree old.known → IsLaid tree over seen
-      → Contains (footprint (get seen) (generation (config_with old.config entries))) path
+      → IsLookedAt (get seen) (config_with old.config entries) path
 
   looks_so : (result : Result Generated Stop) (next : Next) → (next ≡ Err ReadFault → result ≡ Err map.ReadFault)
       → (result ≡ Err map.ReadFault → next ≡ Err ReadFault) → (result ≡ Err map.Memory → next ≡ Err Memory)
@@ -199,13 +198,13 @@ module _ (before middle : FolderState) (old mid : Parts) (edit : List Change) (o
     abbrev AsksMap : Tree → List ℕ → Type 0
     AsksMap tree path =
         (seen : Tree) → StandsBehind tree mid.known → IsLaid tree between seen
-        → Contains (footprint (get seen) (generation (config_with mid.config later_entries))) path
+        → IsLookedAt (get seen) (config_with mid.config later_entries) path
 
     asks_map : (tree : Tree) (path : List ℕ) → before.holds ≡ Some tree → AsksMap tree path → AsksEdit tree path
     asks_map tree path e there state is =
         (let next = left_by tree state e is in
         of_generation next.0 next.1
-        (subst (λ config. Contains (footprint (get next.0.tree) (generation config)) path)
+        (subst (λ config. IsLookedAt (get next.0.tree) config path)
         (config_so state next.0 is.is_state.config_is next.2.entries_are)
         (there next.0.tree next.2.seen.stands next.2.seen.laid)))
 

@@ -25,8 +25,10 @@ use Rattle.package_lookup.specs.LaidTrees.{IsLaid}
 use Rattle.package_lookup.specs.Looked.{over_at, Sees}
 use Rattle.package_lookup.specs.Responses.{Response, given, fails, passes, not_read, no_memory, never, by_limit, looked}
 use Rattle.package_lookup.specs.SeenLooks.{entry_of}
+use Rattle.package_lookup.specs.Trails.{IsReached}
 use Rattle.package_lookup.proofs.Laying.{laid_is_seen}
 use Rattle.package_lookup.proofs.Learnings.{learns_by}
+use Rattle.package_lookup.proofs.Reaching.{reached_among}
 use Rattle.package_lookup.proofs.Sights.{some_sights}
 use Rattle.edit_session.specs.Standings.{standing_at, standing_by, Stands}
 use Rattle.edit_session.specs.declared.standing.Standing.{Standing}
@@ -165,9 +167,11 @@ one_path path other there =
     (All-cons (λ p. p ≡ path) path [] refl (All-nil (λ p. p ≡ path))) there
 
 look_path : (tree : Tree) (known : Known) (path other : List ℕ)
-    → ((sights : Sights) → Sees tree known sights → Contains (looks sights (look_at path)) other) → other ≡ path
+    → ((sights : Sights) → Sees tree known sights
+    → IsReached look_limits sights no_trail (looks sights (look_at path)) other) → other ≡ path
 look_path tree known path other among =
-    (let some = some_sights tree known in one_path path other (among some.0 some.1))
+    let some = some_sights tree known in
+    one_path path other (reached_among look_limits some.0 no_trail (path ∷ []) other (among some.0 some.1))
 
 module _ (before after : FolderState) (known under learnt later : Known) (over left : Over) (path : List ℕ)
     (found : Result Seen LookupFault) (last : Trail) (laid_one : under.laid ≡ over) (kept_one : under.kept ≡ known.kept)
@@ -182,7 +186,8 @@ module _ (before after : FolderState) (known under learnt later : Known) (over l
         (lost_on found)
         (λ other tree e among.
         look_path tree under path other
-        (some_told (λ tree. (sights : Sights) → Sees tree under sights → Contains (looks sights (look_at path)) other)
+        (some_told (λ tree. (sights : Sights) → Sees tree under sights
+        → IsReached look_limits sights no_trail (looks sights (look_at path)) other)
         before.holds tree e among))
         (learns_by (state before under no_trail) (state after learnt last) (look_at path) (looked entry_of found) answered)
         (record {

@@ -6,13 +6,12 @@
 --     GeneratesNext before old over entries result after new      what is pending once the changes are made
 --     MakesNext before old edit result after new                  what is pending of an edit
 --     IsStep old pending new                  what is pending becomes the state
-use Rattle.std.specs.Prelude.{◌≡◌, ⊤, ℕ, List, Some, Result, Err, IfOk, IfErr, Contains}
+use Rattle.std.specs.Prelude.{◌≡◌, ⊤, ℕ, List, Some, Result, Err, IfOk, IfErr}
 use Rattle.std.specs.FinMap.{get}
-use Rattle.tree_spec.specs.LookAskings.{footprint}
 use Rattle.tree_spec.specs.States.{FolderState}
 use Rattle.tree_spec.specs.Trees.{Tree}
+use Rattle.trace_spec.specs.Laws.{IsLookedAt}
 use Rattle.trace_spec.specs.Modules.{Config}
-use Rattle.trace_spec.specs.Traces.{generation}
 use Rattle.config_spec.specs.declared.Command.TheVariants.{Refresh}
 use Rattle.generator_spec.specs.Commands.{Refuses, IsRefusalOf}
 use Rattle.package_lookup.specs.declared.over.Over.{Over}
@@ -62,7 +61,7 @@ pub record GeneratesNext (before : FolderState) (old : Parts) (over : Over) (ent
   pub looks :
       LooksOn before old.known after new.known (result ≡ Err ReadFault) (result ≡ Err Memory)
       (λ tree path. (seen : Tree) → StandsBehind tree old.known → IsLaid tree over seen
-      → Contains (footprint (get seen) (generation (config_with old.config entries))) path)
+      → IsLookedAt (get seen) (config_with old.config entries) path)
   pub same_over : IfOk result (λ pending. (path : List ℕ) → over_at pending.over path ≡ over_at over path)
   pub same_entries : IfOk result (λ pending. pending.entries ≡ entries)
   pub generated :

@@ -1,12 +1,11 @@
 -- A generation over other looks and for other entries, both of which are taken back.
 --     TriesMap before known config over entries result after later left      the map, or why there is none
-use Rattle.std.specs.Prelude.{◌≡◌, ℕ, List, Some, Result, Err, IfOk, IfErr, Contains}
+use Rattle.std.specs.Prelude.{◌≡◌, ℕ, List, Some, Result, Err, IfOk, IfErr}
 use Rattle.std.specs.FinMap.{get}
-use Rattle.tree_spec.specs.LookAskings.{footprint}
 use Rattle.tree_spec.specs.States.{FolderState}
 use Rattle.tree_spec.specs.Trees.{Tree}
+use Rattle.trace_spec.specs.Laws.{IsLookedAt}
 use Rattle.trace_spec.specs.Modules.{Config}
-use Rattle.trace_spec.specs.Traces.{generation}
 use Rattle.config_spec.specs.declared.Command.TheVariants.{Refresh}
 use Rattle.generator_spec.specs.Commands.{Refuses, IsRefusalOf}
 use Rattle.package_lookup.specs.declared.known.Known.{Known}
@@ -31,7 +30,7 @@ pub record TriesMap (before : FolderState) (known : Known) (config : Config) (ov
   pub looks :
       LooksOn before known after later (result ≡ Err ReadFault) (result ≡ Err Memory)
       (λ tree path. (seen : Tree) → StandsBehind tree known → IsLaid tree over seen
-      → Contains (footprint (get seen) (generation (config_with config entries))) path)
+      → IsLookedAt (get seen) (config_with config entries) path)
   pub same_over : (path : List ℕ) → over_at left path ≡ over_at over path
   pub generated :
       IfOk result (λ found. IfLaid before known over

@@ -2,13 +2,13 @@
 use Rattle.std.proofs.Common.{◌∙◌, ◌≡◌, ◌≢◌, ℕ, List, [], Bool, true, false, append-nil, Option, Some, None, IfSome, Result, Ok, Err, refl, sym, ap, subst}
 use Rattle.std.specs.FinMap.{get}
 use Rattle.std.specs.List.{ends_with}
-use Rattle.std.specs.Prelude.{◌≤◌, ◌+◌, ◌++◌, ⊤, All, length, Contains, MatchOption, nat_eq, codes}
+use Rattle.std.specs.Prelude.{◌≤◌, ◌+◌, ◌++◌, ⊤, All, length, MatchOption, nat_eq, codes}
 use Rattle.std.proofs.lemmas.Bool.{cond-false}
 use Rattle.std.proofs.lemmas.Option.{same_Some}
 use Rattle.std.proofs.lemmas.List.{append_cancel_left}
 use Rattle.std.proofs.lemmas.List.Elements.{All-weaker}
 use Rattle.std.specs.Option.{option_or}
-use Rattle.tree_spec.specs.LookAskings.{Sights, footprint}
+use Rattle.tree_spec.specs.LookAskings.{Sights}
 use Rattle.tree_spec.specs.States.{FolderState}
 use Rattle.tree_spec.specs.Trees.{Tree}
 use Rattle.tree_spec.specs.declared.LimitName.TheVariants.{Map, Choices}
@@ -21,6 +21,7 @@ use Rattle.trace_spec.specs.declared.TraceFault.{TraceFault}
 use Rattle.trace_spec.specs.declared.TraceFault.TheVariants as fault
 use Rattle.trace_spec.specs.Checks.{Gathered}
 use Rattle.trace_spec.specs.Kinds.{IsOfTrace}
+use Rattle.trace_spec.specs.Laws.{IsLookedAt}
 use Rattle.trace_spec.specs.Modules.{Config, served_at, served_name, shown, web_name}
 use Rattle.trace_spec.specs.Walking.{the_page}
 use Rattle.url_spec.proofs.PathTestLemmas.{served_by_test}
@@ -33,7 +34,7 @@ use Rattle.web_url.specs.declared.names.WebFault.TheVariants as web_fault
 use Rattle.fewest_spec.specs.Wishes.{HasTooManyChoices}
 use Rattle.generator_spec.proofs.Nameless.{unserved_is_refused}
 use Rattle.generator_spec.specs.Generation.{PageIsFile}
-use Rattle.trace_spec.specs.Traces.{traced, generation}
+use Rattle.trace_spec.specs.Traces.{traced}
 use Rattle.trace_walk.specs.Kinds.{IsOfWalk}
 use Rattle.trace_walk.specs.Meeting.{IsTold}
 use Rattle.request_trace.specs.Tracing.{known_of, IsOfFootprint, TakesStepsToEnd, Traces}
@@ -64,12 +65,12 @@ same_more : (old some more : List (List ℕ)) → Some (old ++ some) ≡ Some (o
 same_more old some more e = append_cancel_left old some more (cc)
 
 within_tree : (told : Option Tree) (known : Known) → IsFresh known → (config : Config) (more : List (List ℕ))
-    → All (λ path. IfSome told (λ tree. (sights : Sights) → Sees tree known sights → Contains (footprint sights (generation config)) path)) more
-    → IfSome told (λ tree. All (Contains (footprint (get tree) (generation config))) more)
+    → All (λ path. IfSome told (λ tree. (sights : Sights) → Sees tree known sights → IsLookedAt sights config path)) more
+    → IfSome told (λ tree. All (IsLookedAt (get tree) config) more)
 within_tree None known fresh config more each = tt
 within_tree (Some tree) known fresh config more each =
-    All-weaker (λ path. (sights : Sights) → Sees tree known sights → Contains (footprint sights (generation config)) path)
-    (Contains (footprint (get tree) (generation config))) (λ path is. is (get tree) (sees_all tree known fresh)) more each
+    All-weaker (λ path. (sights : Sights) → Sees tree known sights → IsLookedAt sights config path)
+    (IsLookedAt (get tree) config) (λ path is. is (get tree) (sees_all tree known fresh)) more each
 
 -- ---- the trace
 
@@ -165,7 +166,7 @@ module _ (config : Config) (before after : FolderState) (known later : Known) (f
 
   -- by what stands at each path in the tree
   in_tree : (more : List (List ℕ)) → All (IsOfFootprint config before known) more
-      → IfSome before.holds (λ tree. All (Contains (footprint (get tree) (generation config))) more)
+      → IfSome before.holds (λ tree. All (IsLookedAt (get tree) config) more)
   in_tree more all = within_tree before.holds known fresh config more all
 
   looks_at : (unfinished : Type 0) → LearnsSo unfinished → IfSome before.asked (λ old. AsksFootprint config before.holds old after)

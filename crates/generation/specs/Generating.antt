@@ -4,7 +4,7 @@
 --     IsMapOf config all generated      the map's text and its counts are those of these tables
 --     HasLargeMap config all      the text of the map of these tables is too large
 --     AsksNoPathTwice old after      the folder was asked for further paths, for none of them twice
---     AsksFootprint config holds old after      where a tree is told, all further paths are of its footprint
+--     AsksFootprint config holds old after      where a tree is told, its trace looks at all further paths by its end
 --     AsksFurther config before after      a folder that tells what it is asked for was asked so
 --     StepsToEnd config holds before after      no more steps than the trace of a told tree asks questions until it ends
 --     Tracing config before result after      the trace of a folder, and what is left of that
@@ -13,13 +13,12 @@
 --     IfSeen tree known P      of each tree that is seen where this is known of the tree behind, this
 --     TracingOver, GeneratingOver config before known result after later      the same, where something is known of the
 --                                                                             folder
-use Rattle.std.specs.Prelude.{◌≡◌, ◌≢◌, ◌≤◌, ◌<◌, ◌+◌, ◌++◌, ⊤, ℕ, List, length, bytes_eq, All, Contains}
+use Rattle.std.specs.Prelude.{◌≡◌, ◌≢◌, ◌≤◌, ◌<◌, ◌+◌, ◌++◌, ⊤, ℕ, List, length, bytes_eq, All}
 use Rattle.std.specs.Prelude.{Option, Some, Result, Ok, Err, IfOk, IfErr, IfSome}
 use Rattle.std.specs.FinMap.{get}
 use Rattle.std.specs.List.{IsDistinct}
 use Rattle.tree_spec.specs.declared.LimitName.TheVariants.{Map}
 use Rattle.tree_spec.specs.Limits.{limit_number}
-use Rattle.tree_spec.specs.LookAskings.{footprint}
 use Rattle.tree_spec.specs.Trees.{Tree}
 use Rattle.tree_spec.specs.States.{FolderState, OnlyLooks}
 use Rattle.import_map_spec.specs.ParsedMap.{ParsedMap}
@@ -31,9 +30,9 @@ use Rattle.trace_spec.specs.declared.TraceFault.{TraceFault}
 use Rattle.trace_spec.specs.declared.TraceFault.TheVariants as fault
 use Rattle.trace_spec.specs.Modules.{Config}
 use Rattle.trace_spec.specs.Checks.{Gathered}
-use Rattle.trace_spec.specs.Laws.{asked_by_end}
+use Rattle.trace_spec.specs.Laws.{asked_by_end, IsLookedAt}
 use Rattle.trace_spec.specs.Questions.{Question}
-use Rattle.trace_spec.specs.Traces.{traced, generation}
+use Rattle.trace_spec.specs.Traces.{traced}
 use Rattle.package_lookup.specs.declared.known.Known.{Known}
 use Rattle.package_lookup.specs.Looked.{Sees}
 use Rattle.package_lookup.specs.Learning.{Learns}
@@ -93,7 +92,7 @@ pub record AsksNoPathTwice (old : List (List ℕ)) (after : FolderState) : Type 
 abbrev pub AsksFootprint : Config → Option Tree → List (List ℕ) → FolderState → Type 0
 AsksFootprint config holds old after =
     (more : List (List ℕ)) → after.asked ≡ Some (old ++ more)
-    → IfSome holds (λ tree. All (Contains (footprint (get tree) (generation config))) more)
+    → IfSome holds (λ tree. All (IsLookedAt (get tree) config) more)
 
 -- own: both, of a folder that tells for which paths it was asked
 pub record AsksFurther (config : Config) (before after : FolderState) : Type 0 where

@@ -2,14 +2,13 @@
 use Rattle.std.proofs.Common.{◌≡◌, ◌≤◌, ℕ, Bool, true, false, List, [], ◌∷◌, ◌++◌, length, Option, Some, None, Ok, Err, IfSome, Result, refl, sym, ap, ◌∙◌, subst, inl, inr, append_assoc}
 use Rattle.std.proofs.lemmas.List.{append-nil}
 use Rattle.std.specs.FinMap.{get}
-use Rattle.std.specs.Prelude.{All, Contains}
+use Rattle.std.specs.Prelude.{All}
 use Rattle.std.proofs.lemmas.List.Elements.{All-nil}
 use Rattle.tree_spec.specs.declared.Look.{Look}
 use Rattle.tree_spec.specs.declared.Look.TheVariants as look
 use Rattle.tree_spec.specs.declared.LookFault.TheVariants as look_fault
 use Rattle.tree_spec.specs.declared.LimitName.TheVariants.{File, Map}
 use Rattle.tree_spec.specs.Limits.{limit_number}
-use Rattle.tree_spec.specs.LookAskings.{footprint}
 use Rattle.tree_spec.specs.Looks.{asked_after}
 use Rattle.tree_spec.specs.States.{FolderState, OnlyLooks, IsLooked}
 use Rattle.tree_spec.specs.Trees.{Tree}
@@ -20,8 +19,8 @@ use Rattle.page_spec.specs.declared.kinds.InjectFault.TheVariants as inject
 use Rattle.page_spec.specs.Injection as injection
 use Rattle.page_spec.specs.Injection.{TakesMaps}
 use Rattle.page_spec.proofs.KeptOut.{takes_or_keeps_out}
+use Rattle.trace_spec.specs.Laws.{IsLookedAt}
 use Rattle.trace_spec.specs.Modules.{Config}
-use Rattle.trace_spec.specs.Traces.{generation}
 use Rattle.config_spec.specs.declared.Command.{Command}
 use Rattle.config_spec.specs.declared.Command.TheVariants.{Inject}
 use Rattle.generator_spec.specs.declared.PageFault.{PageFault}
@@ -49,9 +48,9 @@ own_asked own path b None after same is = tt
 own_asked own path true (Some old) after same is = record { first = own ∷ []; is_own = inr refl; asked = is ∙ ap (λ p. Some (old ++ p ∷ [])) same }
 own_asked own path false (Some old) after same is = record { first = []; is_own = inl refl; asked = is ∙ ap Some (sym (append-nil old)) }
 
--- no paths are of each footprint
-no_more : (config : Config) (holds : Option Tree) → IfSome holds (λ tree. All (Contains (footprint (get tree) (generation config))) [])
-no_more config holds = if_all holds (λ tree. All-nil (Contains (footprint (get tree) (generation config))))
+-- at no paths each trace looks
+no_more : (config : Config) (holds : Option Tree) → IfSome holds (λ tree. All (IsLookedAt (get tree) config) [])
+no_more config holds = if_all holds (λ tree. All-nil (IsLookedAt (get tree) config))
 
 pub own_alone : (config : Config) (holds : Option Tree) (own : List (List ℕ)) (told : Option (List (List ℕ))) (after : FolderState) → IfSome told (λ old. AsksOwn own old after) → IfSome told (λ old. AsksFew config holds own old after)
 own_alone config holds own told after asks = if_some told (λ old is. record { first = is.first; is_own = is.is_own; more = []; asked = is.asked ∙ ap (λ first. Some (old ++ first)) (sym (append-nil is.first)); once = distinct_none; of_footprint = no_more config holds }) asks
@@ -68,7 +67,7 @@ own_then config holds later_holds own (Some old) middle after same first later a
       more = more.more;
       asked = more.asked ∙ ap Some (append_assoc old first.first more.more);
       once = more.once;
-      of_footprint = subst (λ held. IfSome held (λ tree. All (Contains (footprint (get tree) (generation config))) more.more)) same (looks more.more more.asked);
+      of_footprint = subst (λ held. IfSome held (λ tree. All (IsLookedAt (get tree) config) more.more)) same (looks more.more more.asked);
     }
 
 -- a write asks for nothing

@@ -1,22 +1,21 @@
 -- What a run asks its folder for, where the folder tells it. own: no public standard speaks of it.
 --     own_file command config      the path of the file that the command needs before its trace
 --     AsksOwn own old after      the folder was asked for these paths, or for nothing
---     AsksFew config holds own old after      and then for further paths, for none of them twice, which in a told tree
---                              are of the generation's footprint, taken without the limits of looks: a generation
---                              that a limit ends asks for no path behind it, which isn't said here
+--     AsksFew config holds own old after      and then for further paths, for none of them twice, at which in a told
+--                              tree its trace looks up to where it ends: where a limit ends it, up to the look that
+--                              passes the limit
 --     IsConfigAt words command config state      a told tree gives the words this config; whatever is told, they can
 --                              have it
 --     HasMap config holds      a map is generated for the config, where the tree is told
 --     AsksInOrder words before old after      what the folder is asked for in the whole run, at most
-use Rattle.std.specs.Prelude.{◌≡◌, ◌⊎◌, ◌++◌, [], ◌∷◌, ℕ, List, bytes_eq, All, Contains, Option, Some, IfSome}
+use Rattle.std.specs.Prelude.{◌≡◌, ◌⊎◌, ◌++◌, [], ◌∷◌, ℕ, List, bytes_eq, All, Option, Some, IfSome}
 use Rattle.std.specs.Prelude.{option_map}
 use Rattle.std.specs.FinMap.{get}
 use Rattle.std.specs.List.{IsDistinct}
-use Rattle.tree_spec.specs.LookAskings.{footprint}
 use Rattle.tree_spec.specs.States.{FolderState}
 use Rattle.tree_spec.specs.Trees.{Tree}
+use Rattle.trace_spec.specs.Laws.{IsLookedAt}
 use Rattle.trace_spec.specs.Modules.{Config}
-use Rattle.trace_spec.specs.Traces.{generation}
 use Rattle.config_spec.specs.declared.Command.{Command}
 use Rattle.config_spec.specs.declared.Command.TheVariants.{Link, Unlink, Refresh, Inject, Check, CheckStrictly, Why}
 use Rattle.config_spec.specs.declared.Command.TheVariants.{Vendor}
@@ -50,7 +49,7 @@ pub record AsksFew (config : Config) (holds : Option Tree) (own old : List (List
   pub more : List (List ℕ)
   pub asked : after.asked ≡ Some (old ++ (first ++ more))
   pub once : IsDistinct bytes_eq more
-  pub of_footprint : IfSome holds (λ tree. All (Contains (footprint (get tree) (generation config))) more)
+  pub of_footprint : IfSome holds (λ tree. All (IsLookedAt (get tree) config) more)
 
 pub record IsConfigAt (words : List (List ℕ)) (command : Command) (config : Config) (state : FolderState) : Type 0 where
   pub told : IfSome state.holds (λ tree. IsConfigOf words tree command config)

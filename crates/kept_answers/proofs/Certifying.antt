@@ -16,7 +16,6 @@ use Rattle.asking_spec.proofs.AskingLemmas.{questions_then}
 use Rattle.asking_spec.proofs.EvaluationLemmas.{evaluated_then}
 use Rattle.tree_spec.proofs.Contained.{all_contained, contains_seen, seen_contained}
 use Rattle.tree_spec.proofs.FootprintSets.{footprint_is_set}
-use Rattle.tree_spec.proofs.Fronts.{all_front}
 use Rattle.tree_spec.proofs.LimitedLooks.{ends_counted}
 use Rattle.tree_spec.proofs.ToldStates.{if_two, looks_then}
 use Rattle.tree_spec.specs.LookAskings.{Sights, LookAsking, look_at_each, looks, footprint}
@@ -35,6 +34,8 @@ use Rattle.package_lookup.specs.declared.known.Known.{Known}
 use Rattle.package_lookup.specs.Responses.{Response, Failing, given, fails, passes, not_read, no_memory, never, by_limit, by_fault, deep_config}
 use Rattle.package_lookup.specs.declared.fault.LookupFault.{LookupFault}
 use Rattle.package_lookup.specs.declared.fault.LookupFault.TheVariants.{ReadFault, Limit, InvalidConfig, Memory}
+use Rattle.package_lookup.specs.Trails.{IsReached}
+use Rattle.package_lookup.proofs.Reaching.{reached_as, reached_by_front, reached_among, all_reached, looks_passed}
 use Rattle.package_lookup.proofs.Learnings.{learns_then, learns_by, learns_at}
 use Rattle.package_lookup.proofs.Questions.{carried, failed, grows_twice, lengthens_twice, sees_still, then_given, no_memory_now}
 use Rattle.kept_spec.specs.Certificates.{LookSeen, paths_of, AreSeen}
@@ -43,6 +44,7 @@ use Rattle.kept_spec.proofs.Certifying.{end_is_certified, certified_is_asked}
 use Rattle.kept_spec.proofs.FrontLooks.{front_is_looked, front_goes_before, front_stops, question_is_counted}
 use Rattle.kept_answers.specs.KnownLooks.{AreLooksAt, afresh, IsSeenAgain, LooksTo, LooksAgain, IsKept}
 use Rattle.kept_answers.proofs.KnownLemmas.{all_seen}
+use Rattle.kept_answers.proofs.ReachedAgain.{looks_each, reached_first, reached_behind_front}
 
 abbrev nothing_given : Response (Unit {0})
 nothing_given = given tt
@@ -99,10 +101,6 @@ pub seen_other : (before after : State) (looks : List LookSeen) (same : Bool) �
 seen_other before after looks same is again =
     (subst (λ s. LooksAgain before looks (Ok s) after) is again).0
 
-looks_each : (sights : Sights) (paths : List (List ℕ)) → looks sights (look_at_each paths) ≡ paths
-looks_each sights [] = refl
-looks_each sights (path ∷ more) = ap (λ ps. path ∷ ps) (looks_each sights more)
-
 -- each path of a footprint is looked at
 footprint_looks : {X : Type 0} (sights : Sights) (asking : LookAsking X)
     → All (Contains (looks sights asking)) (footprint sights asking)
@@ -144,11 +142,14 @@ module _ {X : Type 0} (asking : LookAsking X) (value : X) (seen : List LookSeen)
           ∙ ap (λ end. then_ended end (λ done later. ends value later)) ((told_at tree holds).says sights sees))
 
       within : (tree : Tree) (sights : Sights) → before.folder.holds ≡ Some tree → Sees tree before.known sights
-          → All (Contains (looks sights asking)) (looks sights (look_at_each (paths_of seen)))
-      within tree sights holds sees =
+          → (path : List ℕ)
+          → IsReached look_limits sights (begun before.trail) (looks sights (look_at_each (paths_of seen))) path
+          → IsReached look_limits sights (begun before.trail) (looks sights asking) path
+      within tree sights holds sees path reached =
           let is = (kept_at tree holds).certified.each sights (here tree sights holds sees) in
-          subst (All (Contains (looks sights asking))) (is.paths ∙ sym (looks_each sights (paths_of seen)))
-          (footprint_looks sights asking)
+          reached_first look_limits sights (begun before.trail) (looks sights asking) path
+          (reached_as look_limits sights (begun before.trail) (looks sights (look_at_each (paths_of seen)))
+          (footprint sights asking) path (is.paths ∙ sym (looks_each sights (paths_of seen))) reached)
 
   -- ---- up to one
 
@@ -171,12 +172,14 @@ module _ {X : Type 0} (asking : LookAsking X) (value : X) (seen : List LookSeen)
         (sees_still tree before.known after.known sights (told_to tree holds).same sees) to.each)
 
     within_front : (tree : Tree) (sights : Sights) → before.folder.holds ≡ Some tree → Sees tree before.known sights
-        → All (Contains (looks sights asking)) (looks sights (look_at_each front))
-    within_front tree sights holds sees =
+        → (path : List ℕ)
+        → IsReached look_limits sights (begun before.trail) (looks sights (look_at_each front)) path
+        → IsReached look_limits sights (begun before.trail) (looks sights asking) path
+    within_front tree sights holds sees path reached =
         let is = is_front tree sights holds sees in
-        subst (All (Contains (looks sights asking))) (sym (looks_each sights front))
-        (all_front (Contains (looks sights asking)) front is.0
-        (subst (All (Contains (looks sights asking))) is.1 (footprint_looks sights asking)))
+        reached_first look_limits sights (begun before.trail) (looks sights asking) path
+        (reached_by_front look_limits sights (begun before.trail) (looks sights (look_at_each front))
+        (footprint sights asking) path (is.0, is.1 ∙ ap (λ ps. ps ++ is.0) (sym (looks_each sights front))) reached)
 
   fails_by : (failing : Failing) (sights : Sights) (paths : List (List ℕ)) (later : Trail)
       → IsFront paths (footprint sights asking)
@@ -210,26 +213,29 @@ module _ {X : Type 0} (asking : LookAsking X) (value : X) (seen : List LookSeen)
         (is_front (given tt) middle to tree sights holds sees)
         ((told_to (given tt) middle to tree holds).says sights sees)
 
+    abbrev Reaches : {Y : Type 0} → State → LookAsking Y → List ℕ → Tree → Type 0
+    Reaches at of path tree =
+        (sights : Sights) → Sees tree at.known sights
+        → IsReached look_limits sights (begun at.trail) (looks sights of) path
+
     first_looks_of : (path : List ℕ) → IsLookOf (afresh before) (look_at_each (front (given tt) middle to)) path
         → IsLookOf (afresh before) asking path
     first_looks_of path is =
-        if_told {P = λ tree. (sights : Sights) → Sees tree before.known sights → Contains (looks sights asking) path}
-        before.folder.holds
-        (λ tree holds sights sees.
-        All-contains (Contains (looks sights asking)) (looks sights (look_at_each (front (given tt) middle to))) path
-        (within_front (given tt) middle to tree sights holds sees)
-        (told_so (λ t. (s : Sights) → Sees t before.known s
-        → Contains (looks s (look_at_each (front (given tt) middle to))) path)
-        before.folder.holds tree holds is sights sees))
+        if_told {P = Reaches before asking path} before.folder.holds
+        (λ tree holds sights sees. within_front (given tt) middle to tree sights holds sees path
+        (told_so (Reaches before (look_at_each (front (given tt) middle to)) path) before.folder.holds tree holds is
+        sights sees))
 
     looks_behind : (path : List ℕ) → IsLookOf (afresh middle) asking path → IsLookOf (afresh before) asking path
     looks_behind path is =
-        if_told {P = λ tree. (sights : Sights) → Sees tree before.known sights → Contains (looks sights asking) path}
-        before.folder.holds
+        if_told {P = Reaches before asking path} before.folder.holds
         (λ tree holds sights sees.
-        told_so (λ t. (s : Sights) → Sees t middle.known s → Contains (looks s asking) path)
-        middle.folder.holds tree (to.answered.folder.tree ∙ holds) is sights
-        (sees_still tree before.known middle.known sights (told_to (given tt) middle to tree holds).same sees))
+        let told = told_to (given tt) middle to tree holds in
+        reached_behind_front look_limits sights before.trail middle.trail (looks sights asking)
+        (front (given tt) middle to) path (is_front (given tt) middle to tree sights holds sees)
+        (told.says sights sees)
+        (told_so (Reaches middle asking path) middle.folder.holds tree (to.answered.folder.tree ∙ holds) is sights
+        (sees_still tree before.known middle.known sights told.same sees)))
 
     tells_behind : (response : Response X) (after : State) → Answered (afresh middle) asking response after
         → (tree : Tree) → before.folder.holds ≡ Some tree → Tells tree (afresh before) asking response after
@@ -289,17 +295,26 @@ module _ {X : Type 0} (asking : LookAsking X) (value : X) (before middle after :
     both = then_given (afresh before) middle after asking (λ v. look_at_each middle.trail.question) value response a b
 
     within_both : (tree : Tree) (sights : Sights) → before.folder.holds ≡ Some tree → Sees tree before.known sights
-        → All (Contains (looks sights asking))
-        (looks sights (and_then asking (λ v. look_at_each middle.trail.question)))
-    within_both tree sights holds sees =
-        let counts = ends_counted look_limits sights (begun before.trail) asking value middle.trail
-        ((told_first tree holds).says sights sees) in
+        → (path : List ℕ)
+        → IsReached look_limits sights (begun before.trail)
+        (looks sights (and_then asking (λ v. look_at_each middle.trail.question))) path
+        → IsReached look_limits sights (begun before.trail) (looks sights asking) path
+    within_both tree sights holds sees path reached =
+        let end = (told_first tree holds).says sights sees in
+        let counts = ends_counted look_limits sights (begun before.trail) asking value middle.trail end in
+        let all =
         subst (All (Contains (looks sights asking)))
         (sym (questions_then sights asking (λ v. look_at_each middle.trail.question)
         ∙ ap (λ ps. looks sights asking ++ ps) (looks_each sights middle.trail.question)))
         (All-append (Contains (looks sights asking)) (looks sights asking) middle.trail.question
         (All-contains_itself (looks sights asking))
-        (subst (All (Contains (looks sights asking))) (sym counts.counts.question) (footprint_looks sights asking)))
+        (subst (All (Contains (looks sights asking))) (sym counts.counts.question) (footprint_looks sights asking))) in
+        all_reached look_limits sights (begun before.trail) middle.trail (looks sights asking) path
+        (looks_passed look_limits sights (begun before.trail) middle.trail asking value end)
+        (All-contains (Contains (looks sights asking))
+        (looks sights (and_then asking (λ v. look_at_each middle.trail.question))) path all
+        (reached_among look_limits sights (begun before.trail)
+        (looks sights (and_then asking (λ v. look_at_each middle.trail.question))) path reached))
 
     -- the looks count nothing
     counted_all : (tree : Tree) (sights : Sights) → before.folder.holds ≡ Some tree → Sees tree before.known sights
@@ -354,7 +369,7 @@ pub lost : {X : Type 0} (before after : State) (asking : LookAsking X) (value : 
 lost {X} before after asking value a =
     reframed {X = X} {Y = X} before after asking asking (given value) (fails no_memory) a (λ e. absurd (cc))
     (λ e. absurd (cc)) (λ e. absurd (cc)) (λ e. absurd (cc)) (λ tree sights holds sees. tt)
-    (λ tree sights holds sees. All-contains_itself (looks sights asking))
+    (λ tree sights holds sees path reached. reached)
 
 -- ---- faults of looks alone
 

@@ -1,4 +1,5 @@
 pub mod KnownLemmas
+mod ReachedAgain
 pub mod Certifying
 pub mod LookingAgain
 pub mod TableLemmas

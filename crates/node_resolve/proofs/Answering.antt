@@ -16,11 +16,10 @@ use Rattle.tree_spec.proofs.ToldStates.{if_some}
 use Rattle.node_spec.specs.NodeAnswers.{Refusal, by_cause, Resolving}
 use Rattle.node_spec.specs.declared.Cause.{Cause}
 use Rattle.package_lookup.specs.Answered.{State, Comes, Tells, IsLookOf, AsksOnce, Answered}
+use Rattle.package_lookup.specs.Trails.{IsReached}
 use Rattle.package_lookup.specs.Responses.{Response, given, fails, passes, not_read, no_memory, never, by_fault, bad_config, deep_config}
 use Rattle.package_lookup.specs.declared.fault.LookupFault.{LookupFault}
 use Rattle.package_lookup.specs.declared.fault.LookupFault.TheVariants as lookup
-use Rattle.std.proofs.lemmas.List.Elements.{All-contains}
-use Rattle.std.specs.Prelude.{All, Contains}
 use Rattle.std.specs.Result.{IsErrAnd}
 use Rattle.package_lookup.proofs.Questions.{asks_finished, handed, then_given, then_fails, now_given, no_memory_now, nothing, looked_to, refused_on, resolved_on}
 use Rattle.node_resolve.specs.Responses.{node_fault, by_node_fault, responded, NeedsNoLook, ComesNow, Gives}
@@ -108,16 +107,25 @@ tells_as None before after one other r q comes tells = tt
 tells_as (Some tree) before after one other r q comes tells =
     record { says = λ sights sees. comes tree sights refl sees; same = tells.same }
 
--- where all looks of the one are looks of the other
+-- where each look of the one is a look of the other
+abbrev GoesTo : {X Y : Type 0} → State → LookAsking X → LookAsking Y → Sights → Type 0
+GoesTo before one other sights =
+    (path : List ℕ) → IsReached look_limits sights before.trail (looks sights one) path
+    → IsReached look_limits sights before.trail (looks sights other) path
+
+abbrev Reaches : {X : Type 0} → State → LookAsking X → List ℕ → Tree → Type 0
+Reaches before asking path tree =
+    (sights : Sights) → Sees tree before.known sights
+    → IsReached look_limits sights before.trail (looks sights asking) path
+
 looks_as : {X Y : Type 0} (told : Option Tree) (before : State) (one : LookAsking X) (other : LookAsking Y)
     (path : List ℕ)
     → ((tree : Tree) (sights : Sights) → told ≡ Some tree → Sees tree before.known sights
-    → All (Contains (looks sights other)) (looks sights one))
-    → IfSome told (λ tree. (sights : Sights) → Sees tree before.known sights → Contains (looks sights one) path)
-    → IfSome told (λ tree. (sights : Sights) → Sees tree before.known sights → Contains (looks sights other) path)
+    → GoesTo before one other sights)
+    → IfSome told (Reaches before one path) → IfSome told (Reaches before other path)
 looks_as None before one other path within is = tt
 looks_as (Some tree) before one other path within is = λ sights sees.
-    All-contains (Contains (looks sights other)) (looks sights one) path (within tree sights refl sees) (is sights sees)
+    within tree sights refl sees path (is sights sees)
 
 pub reframed : {X Y : Type 0} (before after : State) (one : LookAsking X) (other : LookAsking Y) (r : Response X)
     (q : Response Y) → Answered before one r after → (r ≡ fails no_memory → q ≡ fails no_memory)
@@ -126,7 +134,7 @@ pub reframed : {X Y : Type 0} (before after : State) (one : LookAsking X) (other
     → ((tree : Tree) (sights : Sights) → before.folder.holds ≡ Some tree → Sees tree before.known sights
     → Comes (evaluated (limited look_limits sights) before.trail other) q after.trail)
     → ((tree : Tree) (sights : Sights) → before.folder.holds ≡ Some tree → Sees tree before.known sights
-    → All (Contains (looks sights other)) (looks sights one)) → Answered before other q after
+    → GoesTo before one other sights) → Answered before other q after
 reframed before after one other r q a memory read back possible comes within = record {
   tells = tells_as before.folder.holds before after one other r q comes a.tells;
   known = a.known;

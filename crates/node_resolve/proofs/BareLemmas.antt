@@ -2,9 +2,7 @@
 --     calls_seen, names_keep       calls of the object, by what it keeps
 --     choice_answered, choice_lost      the whole target
 --     moved, chosen_fails          what is handed on
-use Rattle.std.proofs.Common.{◌≡◌, ℕ, List, [], ◌∷◌, ◌++◌, Bool, true, false, Option, Some, None, IfSome, refl, sym, ap, ◌∙◌, subst}
-use Rattle.std.specs.Prelude.{All, Contains}
-use Rattle.std.proofs.lemmas.List.Elements.{All-nil, All-append}
+use Rattle.std.proofs.Common.{◌≡◌, ℕ, List, [], ◌∷◌, ◌++◌, Bool, true, false, Option, Some, None, IfSome, refl, sym, ap, ◌∙◌, subst, append_assoc, append-nil}
 use Rattle.asking_spec.proofs.AskingLemmas.{questions_then}
 use Rattle.asking_spec.proofs.EvaluationLemmas.{ends_outcome}
 use Rattle.asking_spec.specs.Askings.{answered, ask, outcome, and_then}
@@ -34,10 +32,12 @@ use Rattle.node_spec.specs.declared.BareAnswer.TheVariants as bare_answer
 use Rattle.node_spec.specs.declared.Outcome.{Outcome}
 use Rattle.package_lookup.specs.Answered.{State, state, Comes, Tells, Answered}
 use Rattle.package_lookup.specs.Looked.{Sees}
+use Rattle.package_lookup.specs.Trails.{IsReached}
 use Rattle.package_lookup.specs.Responses.{Failing, passes, not_read, no_memory, never, Response, given, fails}
+use Rattle.package_lookup.proofs.Reaching.{IsFront, reached_by_front}
 use Rattle.package_lookup.proofs.Questions.{failed, carried, sees_still, limited_always, then_given, then_fails, now_given}
 use Rattle.node_resolve.proofs.Answering.{reframed}
-use Rattle.node_resolve.proofs.TargetLooks.{Hears, IsLook, hears_front, target_heard}
+use Rattle.node_resolve.proofs.TargetLooks.{Hears, target_heard}
 use Rattle.node_resolve.specs.BareTexts.{Kept, KeepsNames, GivesBare, a_value, a_fault, failing_of, lost_by}
 
 -- ---- a front of the calls
@@ -265,34 +265,40 @@ module _ (ask : List ℕ → Resolving Url) where
           calls.2,
     )
 
-    -- ---- the looks for the texts are among these
+    -- ---- these begin with the looks for the texts
 
-    one_heard : (Among : List ℕ → Type 0) (before middle : Kept) (text : List ℕ) (answer : BareAnswer)
-        (more : List Call) → GivesBare ask before text answer middle → before.state.folder.holds ≡ Some tree
+    one_heard : (paths : List (List ℕ)) (before middle : Kept) (text : List ℕ) (answer : BareAnswer)
+        (more rest : List Call) → GivesBare ask before text answer middle → before.state.folder.holds ≡ Some tree
         → Sees tree before.state.known sights → (answer ≡ bare_answer.Stop → more ≡ [])
-        → Hears sights bares Among ((text, answer) ∷ more)
-        → (Hears sights bares Among more → All Among (looks sights (row more)))
-        → All Among (looks sights (row ((text, answer) ∷ more)))
-    one_heard Among before middle text answer more (a_value {found = found} a j l k) e sees ends_it hears rest =
+        → Hears sights bares paths ((text, answer) ∷ (more ++ rest))
+        → ((others : List (List ℕ)) → Hears sights bares others (more ++ rest) → IsFront (looks sights (row more)) others)
+        → IsFront (looks sights (row ((text, answer) ∷ more))) paths
+    one_heard paths before middle text answer more rest (a_value {found = found} a j l k) e sees ends_it hears goes =
         let is : found ≡ outcome sights (ask text) =
         ends_outcome answers sights (limited_always sights) before.state.trail middle.state.trail (ask text) found
         ((tells_at tree before.state middle.state (ask text) (given found) e a).says sights sees) in
-        subst (λ paths. All Among paths) (sym (questions_then sights (ask text) (λ f. row more)))
-        (All-append Among (looks sights (ask text)) (looks sights (row more)) hears.0
-        (rest (hears.1 (j ∙ ap judge_bare is))))
-    one_heard Among before middle text answer more (a_fault a s k) e sees ends_it hears rest =
-        subst (λ paths. All Among paths) (sym (questions_then sights (ask text) (λ f. row more)))
-        (All-append Among (looks sights (ask text)) (looks sights (row more)) hears.0
-        (subst (λ m. All Among (looks sights (row m))) (sym (ends_it s)) (All-nil Among)))
+        let begins = goes hears.0 (hears.2 (j ∙ ap judge_bare is)) in (
+          begins.0,
+          hears.1 ∙ (ap (λ others. looks sights (ask text) ++ others) begins.1
+              ∙ (sym (append_assoc (looks sights (ask text)) (looks sights (row more)) begins.0)
+              ∙ ap (λ others. others ++ begins.0) (sym (questions_then sights (ask text) (λ f. row more))))),
+        )
+    one_heard paths before middle text answer more rest (a_fault a s k) e sees ends_it hears goes = (
+      hears.0,
+      hears.1 ∙ ap (λ others. others ++ hears.0)
+          (sym (questions_then sights (ask text) (λ f. row more)
+          ∙ (ap (λ calls. looks sights (ask text) ++ looks sights (row calls)) (ends_it s)
+          ∙ append-nil (looks sights (ask text))))),
+    )
 
-    all_heard : (Among : List ℕ → Type 0) (before after : Kept) (asked : List Call) → StopsLast asked
+    all_heard : (paths : List (List ℕ)) (before after : Kept) (asked rest : List Call) → StopsLast asked
         → before.state.folder.holds ≡ Some tree → Sees tree before.state.known sights
-        → Calls (GivesBare ask) before asked after → Hears sights bares Among asked
-        → All Among (looks sights (row asked))
-    all_heard Among before after [] stops e sees calls hears = All-nil Among
-    all_heard Among before after (call ∷ more) stops e sees calls hears =
-        one_heard Among before calls.0 call.0 call.1 more calls.1 e sees stops.0 hears
-        (all_heard Among calls.0 after more stops.1 (still_holds before calls.0 call.0 call.1 calls.1 e)
+        → Calls (GivesBare ask) before asked after → Hears sights bares paths (asked ++ rest)
+        → IsFront (looks sights (row asked)) paths
+    all_heard paths before after [] rest stops e sees calls hears = (paths, refl)
+    all_heard paths before after (call ∷ more) rest stops e sees calls hears =
+        one_heard paths before calls.0 call.0 call.1 more rest calls.1 e sees stops.0 hears
+        (λ others. all_heard others calls.0 after more rest stops.1 (still_holds before calls.0 call.0 call.1 calls.1 e)
         (still_sees before calls.0 call.0 call.1 calls.1 e sees) calls.2)
 
   -- ---- the whole target
@@ -353,10 +359,14 @@ module _ (ask : List ℕ → Resolving Url) where
         )))
 
     within : (tree : Tree) (sights : Sights) → before.state.folder.holds ≡ Some tree
-        → Sees tree before.state.known sights → All (Contains (looks sights whole)) (looks sights (row asked))
-    within tree sights e sees =
-        all_heard tree sights (IsLook sights bares whole) before after asked stops e sees calls
-        ((target_heard sights bares rules goal asked out is).hears None)
+        → Sees tree before.state.known sights → (path : List ℕ)
+        → IsReached look_limits sights before.state.trail (looks sights (row asked)) path
+        → IsReached look_limits sights before.state.trail (looks sights whole) path
+    within tree sights e sees path =
+        reached_by_front look_limits sights before.state.trail (looks sights (row asked)) (looks sights whole) path
+        (all_heard tree sights (looks sights whole) before after asked [] stops e sees calls
+        (subst (Hears sights bares (looks sights whole)) (sym (append-nil asked))
+        ((target_heard sights bares rules goal asked out is).hears None)))
 
     whole_by : (fault : Option Failing) → after.fault ≡ fault
         → Answered before.state (row asked) (row_response fault) after.state
@@ -384,13 +394,16 @@ module _ (ask : List ℕ → Resolving Url) where
     front_stops =
         stops_front asked more (stops_last (asked ++ more) out (deciding_call_is_last rules goal (asked ++ more) out is))
 
+    abbrev entire : LookAsking (Came Found)
+    entire = target_comes bares rules goal None
+
     within_front : (tree : Tree) (sights : Sights) → before.state.folder.holds ≡ Some tree
-        → Sees tree before.state.known sights
-        → All (Contains (looks sights (target_comes bares rules goal None))) (looks sights (row asked))
-    within_front tree sights e sees =
-        all_heard tree sights (IsLook sights bares (target_comes bares rules goal None)) before after asked front_stops e
-        sees calls
-        (hears_front sights bares (IsLook sights bares (target_comes bares rules goal None)) asked more
+        → Sees tree before.state.known sights → (path : List ℕ)
+        → IsReached look_limits sights before.state.trail (looks sights (row asked)) path
+        → IsReached look_limits sights before.state.trail (looks sights entire) path
+    within_front tree sights e sees path =
+        reached_by_front look_limits sights before.state.trail (looks sights (row asked)) (looks sights entire) path
+        (all_heard tree sights (looks sights entire) before after asked more front_stops e sees calls
         ((target_heard sights bares rules goal (asked ++ more) out is).hears None))
 
     lost_when : (fault : Option Failing) → Answered before.state (row asked) (row_response fault) after.state

@@ -1,11 +1,8 @@
--- The looks for the bare texts of a target are looks of the target.
---     Hears Among asked            the looks for the texts are among these, up to the first call with another answer
---     hears_front                  so it is of the first calls
+-- The looks for the bare texts of a target are the looks of the target.
+--     Hears paths asked            these are the looks for the texts, in order, up to the first call with another answer
 --     target_heard                 the calls of a target, and what it comes to by them
-use Rattle.std.proofs.Common.{◌≡◌, ℕ, true, false, List, [], ◌∷◌, ◌++◌, Option, refl, sym, ap, ◌∙◌, subst}
-use Rattle.std.specs.Prelude.{All, Contains, ⊤}
+use Rattle.std.proofs.Common.{◌≡◌, ℕ, true, false, List, [], ◌∷◌, ◌++◌, Option, refl, sym, ap, ◌∙◌, subst, append_assoc, append-nil}
 use Rattle.std.proofs.lemmas.Bool.{cond-true, cond-false}
-use Rattle.std.proofs.lemmas.List.Elements.{All-weaker, All-contains_itself, Contains-append_left, Contains-append_right}
 use Rattle.asking_spec.proofs.AskingLemmas.{outcome_then, questions_then}
 use Rattle.asking_spec.specs.Askings.{answered, outcome, and_then}
 use Rattle.json_spec.specs.Value.{Json}
@@ -20,29 +17,20 @@ use Rattle.node_spec.specs.declared.Outcome.{Outcome}
 use Rattle.node_spec.specs.declared.Outcome.TheVariants.{Undefined}
 
 module _ {X : Type 0} (sights : Sights) (bares : Bares X) where
-  abbrev pub Hears : (List ℕ → Type 0) → List Call → Type 0
-  Hears Among [] = ⊤
-  Hears Among (call ∷ more) =
-      All Among (looks sights (bares.ask call.0)) × (call.1 ≡ answer_to sights bares call.0 → Hears Among more)
+  abbrev pub Hears : List (List ℕ) → List Call → Type 0
+  Hears paths [] = paths ≡ []
+  Hears paths (call ∷ more) =
+      (back : List (List ℕ)) × (paths ≡ looks sights (bares.ask call.0) ++ back)
+      × (call.1 ≡ answer_to sights bares call.0 → Hears back more)
 
-  hears_weaker : (One Other : List ℕ → Type 0) → ((path : List ℕ) → One path → Other path) → (asked : List Call)
-      → Hears One asked → Hears Other asked
-  hears_weaker One Other goes [] hears = tt
-  hears_weaker One Other goes (call ∷ more) hears = (
-    All-weaker One Other goes (looks sights (bares.ask call.0)) hears.0,
-    λ e. hears_weaker One Other goes more (hears.1 e),
+  hears_append : (some rest : List (List ℕ)) (front back : List Call) → Hears some front
+      → (Tells (answer_to sights bares) front → Hears rest back) → Hears (some ++ rest) (front ++ back)
+  hears_append some rest [] back hears more = subst (λ paths. Hears (paths ++ rest) back) (sym hears) (more tt)
+  hears_append some rest (call ∷ front) back hears more = (
+    hears.0 ++ rest,
+    ap (λ paths. paths ++ rest) hears.1 ∙ append_assoc (looks sights (bares.ask call.0)) hears.0 rest,
+    λ e. hears_append hears.0 rest front back (hears.2 e) (λ agrees. more (e, agrees)),
   )
-
-  hears_append : (Among : List ℕ → Type 0) (front back : List Call) → Hears Among front
-      → (Tells (answer_to sights bares) front → Hears Among back) → Hears Among (front ++ back)
-  hears_append Among [] back hears rest = rest tt
-  hears_append Among (call ∷ front) back hears rest =
-      (hears.0, λ e. hears_append Among front back (hears.1 e) (λ agrees. rest (e, agrees)))
-
-  pub hears_front : (Among : List ℕ → Type 0) (front back : List Call) → Hears Among (front ++ back)
-      → Hears Among front
-  hears_front Among [] back hears = tt
-  hears_front Among (call ∷ front) back hears = (hears.0, λ e. hears_front Among front back (hears.1 e))
 
   tells_parts : (front back : List Call) → Tells (answer_to sights bares) (front ++ back)
       → Tells (answer_to sights bares) front × Tells (answer_to sights bares) back
@@ -52,36 +40,26 @@ module _ {X : Type 0} (sights : Sights) (bares : Bares X) where
 
   -- ---- a part and the whole
 
-  abbrev pub IsLook : LookAsking (Came X) → List ℕ → Type 0
-  IsLook asking path = Contains (looks sights asking) path
-
-  first_looks : {Y : Type 0} (part : LookAsking Y) (next : Y → LookAsking (Came X)) (path : List ℕ)
-      → Contains (looks sights part) path → IsLook (and_then part next) path
-  first_looks part next path is =
-      subst (λ paths. Contains paths path) (sym (questions_then sights part next))
-      (Contains-append_left (looks sights part) (looks sights (next (outcome sights part))) path is)
-
-  later_looks : (part : LookAsking (Came X)) (next : Came X → LookAsking (Came X)) (path : List ℕ)
-      → IsLook (next (outcome sights part)) path → IsLook (and_then part next) path
-  later_looks part next path is =
-      subst (λ paths. Contains paths path) (sym (questions_then sights part next))
-      (Contains-append_right (looks sights part) (looks sights (next (outcome sights part))) path is)
-
   pub record IsHeard (asked : List Call) (asking : Option X → LookAsking (Came X)) (out : Outcome) : Type 0 where
-    pub hears : (last : Option X) → Hears (IsLook (asking last)) asked
+    pub hears : (last : Option X) → Hears (looks sights (asking last)) asked
     pub comes : (last : Option X) → Tells (answer_to sights bares) asked → out_of sights (asking last) ≡ out
 
-  part_heard : (part : LookAsking (Came X)) (next : Came X → LookAsking (Came X)) (asked : List Call)
-      → Hears (IsLook part) asked → Hears (IsLook (and_then part next)) asked
-  part_heard part next asked hears =
-      hears_weaker (IsLook part) (IsLook (and_then part next)) (first_looks part next) asked hears
+  then_heard : (part : LookAsking (Came X)) (next : Came X → LookAsking (Came X)) (front back : List Call)
+      → Hears (looks sights part) front
+      → (Tells (answer_to sights bares) front → Hears (looks sights (next (outcome sights part))) back)
+      → Hears (looks sights (and_then part next)) (front ++ back)
+  then_heard part next front back hears rest =
+      subst (λ paths. Hears paths (front ++ back)) (sym (questions_then sights part next))
+      (hears_append (looks sights part) (looks sights (next (outcome sights part))) front back hears rest)
 
-  rest_heard : (part : LookAsking (Came X)) (next : Came X → LookAsking (Came X)) (rest : LookAsking (Came X))
-      (asked : List Call) → next (outcome sights part) ≡ rest → Hears (IsLook rest) asked
-      → Hears (IsLook (and_then part next)) asked
-  rest_heard part next rest asked same hears =
-      hears_weaker (IsLook rest) (IsLook (and_then part next))
-      (λ path is. later_looks part next path (subst (λ asking. IsLook asking path) (sym same) is)) asked hears
+  -- nothing is looked at behind the part
+  part_heard : (part : LookAsking (Came X)) (next : Came X → LookAsking (Came X)) (asked : List Call)
+      → Hears (looks sights part) asked
+      → (Tells (answer_to sights bares) asked → looks sights (next (outcome sights part)) ≡ [])
+      → Hears (looks sights (and_then part next)) asked
+  part_heard part next asked hears none =
+      subst (λ calls. Hears (looks sights (and_then part next)) calls) (append-nil asked)
+      (then_heard part next asked [] hears none)
 
   rest_comes : (part : LookAsking (Came X)) (next : Came X → LookAsking (Came X)) (rest : LookAsking (Came X))
       → next (outcome sights part) ≡ rest → out_of sights (and_then part next) ≡ out_of sights rest
@@ -89,12 +67,12 @@ module _ {X : Type 0} (sights : Sights) (bares : Bares X) where
       ap (λ (c : Came X). c.out) (outcome_then sights part next) ∙ ap (out_of sights) same
 
   silent : (out : Outcome) → IsHeard [] (λ last. answered (came out last)) out
-  silent out = record { hears = λ last. tt; comes = λ last agrees. refl }
+  silent out = record { hears = λ last. refl; comes = λ last agrees. refl }
 
   chosen : (asked : List Call) (out : Outcome) (asking other : Option X → LookAsking (Came X))
       → ((last : Option X) → other last ≡ asking last) → IsHeard asked asking out → IsHeard asked other out
   chosen asked out asking other same one = record {
-    hears = λ last. subst (λ a. Hears (IsLook a) asked) (sym (same last)) (one.hears last);
+    hears = λ last. subst (λ a. Hears (looks sights a) asked) (sym (same last)) (one.hears last);
     comes = λ last agrees. ap (out_of sights) (same last) ∙ one.comes last agrees;
   }
 
@@ -112,11 +90,10 @@ module _ {X : Type 0} (sights : Sights) (bares : Bares X) where
       λ last agrees. cond-true _ _ _ (ap is_passed (one.comes last agrees) ∙ p) in
       record {
         hears = λ last. let c : Came X = outcome sights (item last) in
-            hears_append (IsLook (and_then (item last) (after_item more))) front back
-            (part_heard (item last) (after_item more) front (one.hears last))
-            (λ agrees. rest_heard (item last) (after_item more) (rest_of_list more c) back (goes last agrees)
+            then_heard (item last) (after_item more) front back (one.hears last)
+            (λ agrees. subst (λ a. Hears (looks sights a) back) (sym (goes last agrees))
             (part_heard (more c.last) (λ later. answered (came (last_of c.out later.out) later.last)) back
-            (two.hears c.last)));
+            (two.hears c.last) (λ told. refl)));
         comes = λ last agrees. let c : Came X = outcome sights (item last) in
             let parts = tells_parts front back agrees in
             rest_comes (item last) (after_item more) (rest_of_list more c) (goes last parts.0)
@@ -128,7 +105,8 @@ module _ {X : Type 0} (sights : Sights) (bares : Bares X) where
       → is_passed out ≡ false → IsHeard asked item out
       → IsHeard asked (λ last. and_then (item last) (after_item more)) out
   item_decided asked item more out p one = record {
-    hears = λ last. part_heard (item last) (after_item more) asked (one.hears last);
+    hears = λ last. part_heard (item last) (after_item more) asked (one.hears last)
+        (λ agrees. ap (looks sights) (cond-false _ _ _ (ap is_passed (one.comes last agrees) ∙ p)));
     comes = λ last agrees.
         rest_comes (item last) (after_item more) (answered (outcome sights (item last)))
         (cond-false _ _ _ (ap is_passed (one.comes last agrees) ∙ p))
@@ -144,10 +122,8 @@ module _ {X : Type 0} (sights : Sights) (bares : Bares X) where
       λ last agrees. cond-true _ _ _ (ap is_undefined (one.comes last agrees)) in
       record {
         hears = λ last. let c : Came X = outcome sights (member last) in
-            hears_append (IsLook (and_then (member last) (after_member more))) front back
-            (part_heard (member last) (after_member more) front (one.hears last))
-            (λ agrees. rest_heard (member last) (after_member more) (more c.last) back (goes last agrees)
-            (two.hears c.last));
+            then_heard (member last) (after_member more) front back (one.hears last)
+            (λ agrees. subst (λ a. Hears (looks sights a) back) (sym (goes last agrees)) (two.hears c.last));
         comes = λ last agrees. let c : Came X = outcome sights (member last) in
             let parts = tells_parts front back agrees in
             rest_comes (member last) (after_member more) (more c.last) (goes last parts.0)
@@ -158,7 +134,8 @@ module _ {X : Type 0} (sights : Sights) (bares : Bares X) where
       → is_undefined out ≡ false → IsHeard asked member out
       → IsHeard asked (λ last. and_then (member last) (after_member more)) out
   member_defined asked member more out p one = record {
-    hears = λ last. part_heard (member last) (after_member more) asked (one.hears last);
+    hears = λ last. part_heard (member last) (after_member more) asked (one.hears last)
+        (λ agrees. ap (looks sights) (cond-false _ _ _ (ap is_undefined (one.comes last agrees) ∙ p)));
     comes = λ last agrees.
         rest_comes (member last) (after_member more) (answered (outcome sights (member last)))
         (cond-false _ _ _ (ap is_undefined (one.comes last agrees) ∙ p))
@@ -170,12 +147,8 @@ module _ {X : Type 0} (sights : Sights) (bares : Bares X) where
   bare_heard : (text : List ℕ) (answer : BareAnswer)
       → IsHeard ((text, answer) ∷ []) (λ last. asks_bare bares text) (bare_outcome answer)
   bare_heard text answer = record {
-    hears = λ last. (
-      All-weaker (Contains (looks sights (bares.ask text))) (IsLook (asks_bare bares text))
-          (first_looks (bares.ask text) (λ value. answered (bare_comes bares value))) (looks sights (bares.ask text))
-          (All-contains_itself (looks sights (bares.ask text))),
-      λ e. tt,
-    );
+    hears = λ last.
+        ([], questions_then sights (bares.ask text) (λ value. answered (bare_comes bares value)), λ e. refl);
     comes = λ last agrees.
         ap (λ (c : Came X). c.out) (outcome_then sights (bares.ask text) (λ value. answered (bare_comes bares value)))
         ∙ ap bare_outcome (sym agrees.0);

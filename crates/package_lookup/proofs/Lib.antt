@@ -3,6 +3,7 @@ pub mod PathSets
 mod LookCounts
 mod SightAnswers
 mod Folders
+pub mod Reaching
 pub mod Sights
 mod Growing
 pub mod Questions

@@ -7,7 +7,7 @@
 --     known_on                     what is known is the same in another form
 --     Left before whole middle rest      whatever the rest comes to from here, the whole comes to
 use Rattle.std.proofs.Common.{◌≡◌, ◌++◌, [], ◌∷◌, ℕ, true, false, List, Option, Some, None, Result, Ok, Err, IfSome, refl, sym, ap, ◌∙◌, subst, arith}
-use Rattle.std.specs.Prelude.{is_some, bytes_eq, All, Contains}
+use Rattle.std.specs.Prelude.{is_some, bytes_eq, All}
 use Rattle.std.specs.FinMap.{get}
 use Rattle.std.proofs.Common.{append_assoc, append-nil}
 use Rattle.std.specs.Option.{option_or}
@@ -15,7 +15,7 @@ use Rattle.std.specs.Result.{IsErrAnd}
 use Rattle.std.proofs.lemmas.Bool.{cases_Bool}
 use Rattle.std.proofs.lemmas.Result.{err_from_is_err_and}
 use Rattle.std.proofs.Common.{⊎_elim}
-use Rattle.std.proofs.lemmas.List.Elements.{All-append, All-weaker, All-nil, Contains-append_left, Contains-append_right}
+use Rattle.std.proofs.lemmas.List.Elements.{All-append, All-weaker, All-nil}
 use Rattle.std.proofs.lemmas.Slice.Eq.{bytes_eq-Decides}
 use Rattle.asking_spec.proofs.AskingLemmas.{questions_then}
 use Rattle.asking_spec.proofs.EvaluationLemmas.{evaluated_then, ends_outcome}
@@ -40,8 +40,9 @@ use Rattle.package_lookup.specs.Looked.{laid_at, kept_at, known_at, look_or, loo
 use Rattle.package_lookup.specs.SeenLooks.{IsWithin}
 use Rattle.package_lookup.specs.Responses.{Failing, passes, not_read, no_memory, never, Response, given, fails, by_limit, by_fault, looked, bad_config, deep_config, resolved}
 use Rattle.package_lookup.specs.Answered.{State, state, Fails, Comes, Tells, IsLookOf, AsksOnce, Answered}
-use Rattle.package_lookup.specs.Trails.{Lengthens}
+use Rattle.package_lookup.specs.Trails.{Lengthens, IsReached}
 use Rattle.package_lookup.proofs.PathSets.{Apart, distinct_append}
+use Rattle.package_lookup.proofs.Reaching.{reached_as, reached_behind, reached_by_front, looks_passed}
 
 -- ---- what is known grows
 
@@ -256,40 +257,41 @@ pub limited_always : (sights : Sights) → AreAlways (limited look_limits sights
 limited_always sights trail after path found e =
     looked_by (sights path) trail after (counted look_limits trail path (sights path)) found e
 
+abbrev Reaches : {X : Type 0} → State → LookAsking X → List ℕ → Tree → Type 0
+Reaches before asking path tree =
+    (sights : Sights) → Sees tree before.known sights
+    → IsReached look_limits sights before.trail (looks sights asking) path
+
 pub look_first : {X Y : Type 0} (before : State) (part : LookAsking X) (next : X → LookAsking Y) (path : List ℕ)
     → IsLookOf before part path → IsLookOf before (and_then part next) path
 look_first before part next path is =
-    if_some {P = λ tree. (sights : Sights) → Sees tree before.known sights → Contains (looks sights part) path}
-    {Q = λ tree. (sights : Sights) → Sees tree before.known sights → Contains (looks sights (and_then part next)) path}
-    before.folder.holds
-    (λ tree each sights sees. subst (λ paths. Contains paths path) (sym (questions_then sights part next))
-    (Contains-append_left (looks sights part) (looks sights (next (outcome sights part))) path (each sights sees))) is
+    if_some {P = Reaches before part path} {Q = Reaches before (and_then part next) path} before.folder.holds
+    (λ tree each sights sees. reached_by_front look_limits sights before.trail (looks sights part)
+    (looks sights (and_then part next)) path
+    (looks sights (next (outcome sights part)), questions_then sights part next) (each sights sees)) is
 
 behind_at : {X Y : Type 0} (tree : Tree) (before middle : State) (part : LookAsking X) (next : X → LookAsking Y)
-    (value : X) (path : List ℕ) → Tells tree before part (given value) middle
-    → ((sights : Sights) → Sees tree middle.known sights → Contains (looks sights (next value)) path)
-    → (sights : Sights) → Sees tree before.known sights → Contains (looks sights (and_then part next)) path
+    (value : X) (path : List ℕ) → Tells tree before part (given value) middle → Reaches middle (next value) path tree
+    → Reaches before (and_then part next) path tree
 behind_at tree before middle part next value path tells each sights sees =
+    let end = tells.says sights sees in
     let is : value ≡ outcome sights part =
-    ends_outcome (limited look_limits sights) sights (limited_always sights) before.trail middle.trail part value
-    (tells.says sights sees) in
-    subst (λ paths. Contains paths path)
-    (sym (questions_then sights part next ∙ ap (λ v. looks sights part ++ looks sights (next v)) (sym is)))
-    (Contains-append_right (looks sights part) (looks sights (next value)) path
+    ends_outcome (limited look_limits sights) sights (limited_always sights) before.trail middle.trail part value end in
+    reached_as look_limits sights before.trail (looks sights part ++ looks sights (next value))
+    (looks sights (and_then part next)) path
+    (questions_then sights part next ∙ ap (λ v. looks sights part ++ looks sights (next v)) (sym is))
+    (reached_behind look_limits sights before.trail middle.trail (looks sights part) (looks sights (next value)) path
+    (looks_passed look_limits sights before.trail middle.trail part value end)
     (each sights (sees_still tree before.known middle.known sights tells.same sees)))
 
 pub look_behind : {X Y : Type 0} (before middle : State) (part : LookAsking X) (next : X → LookAsking Y) (value : X)
     (path : List ℕ) → Answered before part (given value) middle → IsLookOf middle (next value) path
     → IsLookOf before (and_then part next) path
 look_behind before middle part next value path one is =
-    if_two {P = λ tree. Tells tree before part (given value) middle}
-    {Q = λ tree. (sights : Sights) → Sees tree middle.known sights → Contains (looks sights (next value)) path}
-    {R = λ tree. (sights : Sights) → Sees tree before.known sights → Contains (looks sights (and_then part next)) path}
-    before.folder.holds
+    if_two {P = λ tree. Tells tree before part (given value) middle} {Q = Reaches middle (next value) path}
+    {R = Reaches before (and_then part next) path} before.folder.holds
     (λ tree. behind_at tree before middle part next value path) one.tells
-    (subst (λ holds. IfSome holds
-    (λ tree. (sights : Sights) → Sees tree middle.known sights → Contains (looks sights (next value)) path))
-    one.folder.tree is)
+    (subst (λ holds. IfSome holds (Reaches middle (next value) path)) one.folder.tree is)
 
 -- ---- a part, and what comes behind it
 

@@ -1,8 +1,8 @@
 -- A look at a path, as an answer to the asking for it.
 use Rattle.std.proofs.Common.{◌≡◌, ◌≢◌, ◌⊎◌, ◌++◌, [], ◌∷◌, ℕ, true, false, List, Option, Some, None, Result, Ok, Err, IfSome, refl, sym, ap, ◌∙◌, subst, inl, inr, append-nil, ⊎_elim}
-use Rattle.std.specs.Prelude.{is_some, Contains, if◌then◌else◌}
+use Rattle.std.specs.Prelude.{is_some, if◌then◌else◌}
 use Rattle.std.specs.FinMap.{get}
-use Rattle.std.proofs.lemmas.List.Elements.{All-cons, All-nil, Contains-push}
+use Rattle.std.proofs.lemmas.List.Elements.{All-cons, All-nil}
 use Rattle.asking_spec.specs.Evaluation.{Ended, ends, then_ended, evaluated}
 use Rattle.tree_spec.specs.LookAskings.{Sights, look_at, looks}
 use Rattle.tree_spec.specs.LookLimits.{Trail, look_limits, counted, told, limited}
@@ -20,11 +20,12 @@ use Rattle.package_lookup.specs.declared.held.Seen.{Seen}
 use Rattle.package_lookup.specs.declared.known.Known.{Known}
 use Rattle.package_lookup.specs.SeenLooks.{entry_of, look_seen, within_limit, IsWithin, seen_as}
 use Rattle.package_lookup.specs.Looked.{known_at, look_or, look_in, Sees, Grows}
-use Rattle.package_lookup.specs.Trails.{has_room, OnCount, Lengthens}
+use Rattle.package_lookup.specs.Trails.{has_room, OnCount, Lengthens, IsReached}
 use Rattle.package_lookup.specs.Responses.{passes, not_read, no_memory, never, Response, given, fails, by_limit, by_fault}
 use Rattle.package_lookup.specs.Answered.{State, state, Comes, Tells, IsLookOf, IsCovered, AsksOnce, Answered}
 use Rattle.package_lookup.specs.Fetching.{unknown, IsAsked, Fetches}
 use Rattle.package_lookup.proofs.LookCounts.{counted_large, counted_many, counted_named, counted_alike, counted_paths, counted_within, small_within, stands_counted, large_seen}
+use Rattle.package_lookup.proofs.Reaching.{reached_now}
 use Rattle.package_lookup.proofs.Questions.{nothing, asks_nothing, covers_still, failed, lengthens_itself}
 
 abbrev End : Type 0
@@ -73,10 +74,12 @@ asks_told (Some list) before after unfinished Among path result here covers aske
     asks_covered list before after unfinished Among path asked.0 here asked.1 (covers asked.0 asked.2)
 
 -- the path at which a look looks
-looks_there : (path : List ℕ) (holds : Option Tree) (known : Known)
-    → IfSome holds (λ tree. (sights : Sights) → Sees tree known sights → Contains (looks sights (look_at path)) path)
-looks_there path None known = tt
-looks_there path (Some tree) known = λ sights sees. Contains-push [] path
+looks_there : (path : List ℕ) (holds : Option Tree) (known : Known) (trail : Trail)
+    → IfSome holds
+    (λ tree. (sights : Sights) → Sees tree known sights
+    → IsReached look_limits sights trail (looks sights (look_at path)) path)
+looks_there path None known trail = tt
+looks_there path (Some tree) known trail = λ sights sees. reached_now look_limits sights trail path []
 
 -- ---- a look that was fetched
 
@@ -109,7 +112,7 @@ module _ (before after : FolderState) (old new : Known) (trail : Trail) (path : 
     trail = lengthens;
     covered = keeps;
     asked = asks_told before.asked (state before old trail) (state after new later) (response ≡ fails no_memory)
-        (IsLookOf (state before old trail) (look_at path)) path result (looks_there path before.holds old) covers
+        (IsLookOf (state before old trail) (look_at path)) path result (looks_there path before.holds old trail) covers
         fetches.asked;
     folder = only;
     possible = possible;

@@ -1,7 +1,8 @@
 -- What a call that asks about a folder does.
 --     State                                 the folder, what is known of it, and what was looked at
 --     Comes end response after              the evaluation of an asking ends as the call does
---     IsLookOf before asking path           where a tree is told, the asking looks at the path, by all that looks tell
+--     IsLookOf before asking path           where a tree is told, the asking looks at the path, by all that looks tell,
+--                                           and a limit doesn't stop it before
 --     AsksOnce old before after unfinished Among
 --                                           the folder was asked for no path that was known, for none twice, and for
 --                                           those alone of which this holds
@@ -20,7 +21,7 @@ use Rattle.tree_spec.specs.declared.LimitName.{LimitName}
 use Rattle.package_lookup.specs.declared.known.Known.{Known}
 use Rattle.package_lookup.specs.Looked.{known_at, look_in, Sees, Grows}
 use Rattle.package_lookup.specs.SeenLooks.{IsWithin}
-use Rattle.package_lookup.specs.Trails.{has_room, Lengthens}
+use Rattle.package_lookup.specs.Trails.{has_room, Lengthens, IsReached}
 use Rattle.package_lookup.specs.Responses.{Failing, passes, not_read, no_memory, never, Response, given, fails}
 
 pub record State : Type 0 where
@@ -51,11 +52,12 @@ pub record Tells {X : Type 0} (tree : Tree) (before : State) (asking : LookAskin
       → Comes (evaluated (limited look_limits sights) before.trail asking) response after.trail
   pub same : (path : List ℕ) → look_in tree after.known path ≡ look_in tree before.known path
 
--- own: the path is one of the asking's looks, whatever stands at each path as far as a look tells
+-- own: the path is one of the asking's looks and behind no limit, whatever stands at each path as far as a look tells
 abbrev pub IsLookOf : {X : Type 0} → State → LookAsking X → List ℕ → Type 0
 IsLookOf before asking path =
     IfSome before.folder.holds
-    (λ tree. (sights : Sights) → Sees tree before.known sights → Contains (looks sights asking) path)
+    (λ tree. (sights : Sights) → Sees tree before.known sights
+    → IsReached look_limits sights before.trail (looks sights asking) path)
 
 -- where the folder tells what it was asked for: further paths, none of them known before, none of them twice, each of
 -- them known afterwards, unless memory was wanting, and no others than those that were to be looked at

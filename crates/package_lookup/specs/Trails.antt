@@ -3,9 +3,13 @@
 --     OnCount old counted result new     the call does what counting the look tells
 --     IsCounted shown old path result new      a look that answers is counted, and one that passes a limit leaves the trail
 --     Lengthens before after             the paths before are the first of those after, and the size doesn't fall
-use Rattle.std.specs.Prelude.{◌≡◌, ◌≤◌, ◌||◌, ◌++◌, ℕ, nat_lt, Bool, List, length, Option, Result, Ok, Err, ⊤}
-use Rattle.tree_spec.specs.LookAskings.{is_seen}
-use Rattle.tree_spec.specs.LookLimits.{Trail, look_limits, counted}
+--     IsReached limits sights trail paths path
+--                                        of looks at these paths one after another, one is at this path, and those
+--                                        before it pass no limit
+use Rattle.std.specs.Prelude.{◌≡◌, ◌≤◌, ◌||◌, ◌++◌, ◌∷◌, ℕ, nat_lt, Bool, List, length, Option, Result, Ok, Err, ⊤}
+use Rattle.asking_spec.specs.Evaluation.{ends, evaluated}
+use Rattle.tree_spec.specs.LookAskings.{Sights, look_at_each, is_seen}
+use Rattle.tree_spec.specs.LookLimits.{LookLimits, Trail, look_limits, counted, limited}
 use Rattle.tree_spec.specs.declared.Entry.{Entry}
 use Rattle.tree_spec.specs.declared.LimitName.{LimitName}
 use Rattle.package_lookup.specs.declared.fault.LookupFault.{LookupFault}
@@ -35,3 +39,12 @@ pub record Lengthens (before after : Trail) : Type 0 where
   pub more : List (List ℕ)
   pub paths : after.paths ≡ before.paths ++ more
   pub size : before.size ≤ after.size
+
+-- own: so that looks behind the first limit are none; a path that stands in the list twice may be reached at either
+pub record IsReached (limits : LookLimits) (sights : Sights) (trail : Trail) (paths : List (List ℕ))
+    (path : List ℕ) : Type 0 where
+  pub front : List (List ℕ)
+  pub back : List (List ℕ)
+  pub split : paths ≡ front ++ path ∷ back
+  pub before : Trail
+  pub passes : evaluated (limited limits sights) trail (look_at_each front) ≡ ends tt before

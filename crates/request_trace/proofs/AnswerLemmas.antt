@@ -1,5 +1,4 @@
 -- A question of a walk that is answered by looks, and the walk over these answers.
---     answers_always       the answers are always the same, unless a limit stops them
 --     always_ready         an answerer that needs nothing to be ready
 --     kind_of, found_of    why a module has no source, and that one that it has is right
 --     met_by               a question
@@ -14,23 +13,22 @@
 use Rattle.std.proofs.Common.{◌≡◌, ◌≤◌, ◌+◌, ℕ, List, length, Option, Some, None, Result, Ok, Err, IfSome, refl, sym, ap, ◌∙◌, subst, arith}
 use Rattle.std.specs.Prelude.{◌≢◌, [], ◌∷◌, Contains, IfErr, IfOk, MatchResult, OnOk, ⊤}
 use Rattle.std.proofs.lemmas.List.Elements.{Contains-append_left}
-use Rattle.asking_spec.specs.Askings.{answered, ask, questions}
-use Rattle.asking_spec.proofs.EvaluationLemmas.{ends_outcome}
-use Rattle.asking_spec.specs.Evaluation.{Ended, ends, then_ended, evaluated, AreAlways}
+use Rattle.asking_spec.specs.Askings.{answered, ask}
+use Rattle.asking_spec.specs.Evaluation.{Ended, ends, then_ended, evaluated}
 use Rattle.tree_spec.specs.declared.LimitName.{LimitName}
 use Rattle.tree_spec.specs.Limits.{limit_number}
 use Rattle.tree_spec.specs.declared.LimitName.TheVariants.{File, Bytes, Looks, Modules, ModuleRequests, Requests, Specifier, Entries, Brackets, Depth, Session, Map, Choices}
-use Rattle.trace_spec.proofs.Generations.{looks_are_of_questions}
-use Rattle.tree_spec.specs.LookAskings.{Sights, looks, footprint}
+use Rattle.tree_spec.specs.LookAskings.{Sights, looks}
 use Rattle.tree_spec.specs.LookLimits.{Trail, begun, no_trail, look_limits, limited}
 use Rattle.tree_spec.specs.States.{FolderState}
 use Rattle.tree_spec.specs.Trees.{Tree}
 use Rattle.tree_spec.proofs.ToldStates.{if_all}
 use Rattle.trace_spec.specs.declared.TraceFault.{TraceFault}
 use Rattle.trace_spec.specs.declared.TraceFault.TheVariants.{Limit, ReadFault, Memory}
-use Rattle.trace_spec.specs.Questions.{Question, Answer, put, answers, always}
+use Rattle.trace_spec.specs.Laws.{IsLookedAt}
+use Rattle.trace_spec.specs.Questions.{Question, Answer, put, answers}
 use Rattle.trace_spec.specs.Kinds.{IsTraceLimit}
-use Rattle.trace_spec.specs.Traces.{result_of, state_of, trace, traced, generation}
+use Rattle.trace_spec.specs.Traces.{result_of, state_of, trace, traced}
 use Rattle.trace_spec.specs.Checks.{Gathered}
 use Rattle.trace_spec.specs.Modules.{Config}
 use Rattle.package_lookup.specs.declared.known.Known.{Known}
@@ -38,9 +36,10 @@ use Rattle.package_lookup.specs.Looked.{Sees}
 use Rattle.package_lookup.specs.Answered.{State, state, Tells, IsLookOf, Answered}
 use Rattle.package_lookup.specs.Answered as lookup
 use Rattle.package_lookup.specs.Responses.{Response, given, fails, passes, not_read, no_memory, never, by_limit}
-use Rattle.package_lookup.proofs.Questions.{sees_still, limited_always}
+use Rattle.package_lookup.specs.Trails.{IsReached}
+use Rattle.package_lookup.proofs.Questions.{sees_still}
 use Rattle.package_lookup.proofs.Learnings.{learns_as, learns_by, learns_at, learns_nothing}
-use Rattle.trace_walk.specs.Meeting.{Told, Kept, IsTold, looks_of, IsAskedBy, fresh_to_end, Comes, Met, fine}
+use Rattle.trace_walk.specs.Meeting.{Told, Kept, IsTold, asked_then, asked_to_end, looks_to_end, IsAskedBy, fresh_to_end, Comes, Met, fine}
 use Rattle.module_sources.specs.declared.source.Source.{Source}
 use Rattle.module_sources.specs.declared.source.NoSource.{NoSource}
 use Rattle.module_sources.specs.Shown.{FindsSource, IsSource}
@@ -51,7 +50,7 @@ use Rattle.package_lookup.specs.Lookups.{IsSameLookup}
 use Rattle.package_lookup.specs.declared.lookup.Lookup.{Lookup}
 use Rattle.request_trace.specs.Answering.{result_by, told_by, ToldBy, answers_of, references_of}
 use Rattle.request_trace.specs.Tracing.{known_of, IsOfFootprint, TakesSteps, Traces}
-use Rattle.request_trace.proofs.FootprintPaths.{footprint_contains}
+use Rattle.request_trace.proofs.WalkLooks.{reached_to_end, walk_looks}
 
 pub always_ready : {A E : Type 0} (result : Result A E) → OnOk result ⊤
 always_ready (Ok value) = tt
@@ -99,10 +98,6 @@ read_by (fails not_read) result is e = refl
 read_by (fails no_memory) result is e = absurd (cc)
 read_by (fails never) result is e = absurd (cc)
 
-pub answers_always : (sights : Sights) → AreAlways (answers sights) (always sights)
-answers_always sights trail after question answer e =
-    ends_outcome (limited look_limits sights) sights (limited_always sights) (begun trail) after (put question) answer e
-
 abbrev afresh : State → State
 afresh before = state before.folder before.known (begun before.trail)
 
@@ -136,14 +131,18 @@ module _ (references : List ℕ) (taken spent : ℕ) (before after : State) (que
   -- a look of the question is one at which the walk's question looks
   asked_by : (path : List ℕ) → IsLookOf (afresh before) (put question) path
       → IsAskedBy (answers_of references taken before) (fine (ask question answered)) path
-  asked_by path is told by are =
-      let each : (sights : Sights) → Sees by.tree before.known sights → Contains (looks sights (put question)) path =
+  asked_by path is told by =
+      let each : (sights : Sights) → Sees by.tree before.known sights
+      → IsReached look_limits sights (begun before.trail) (looks sights (put question)) path =
       subst (λ holds. IfSome holds
-      (λ tree. (sights : Sights) → Sees tree before.known sights → Contains (looks sights (put question)) path))
+      (λ tree. (sights : Sights) → Sees tree before.known sights
+      → IsReached look_limits sights (begun before.trail) (looks sights (put question)) path))
       by.holds is in
-      subst (λ (t : Answering). Contains (looks_of t (questions t.always (fine (ask question answered)))) path)
+      subst (λ (t : Answering). Contains (looks_to_end t before.trail (fine (ask question answered))) path)
       (sym by.are)
-      (Contains-append_left (looks by.sights (put question)) [] path (each by.sights by.sees))
+      (Contains-append_left (asked_to_end (limited look_limits by.sights) (begun before.trail) (put question))
+      (asked_then (answers by.sights before.trail question) (λ answer after. [])) path
+      (reached_to_end by.sights (begun before.trail) (put question) path (each by.sights by.sees)))
 
   steps_told : spent ≤ taken + 1 → (told : Answering) → ToldBy before.folder before.known told
       → spent ≤ taken + length (fresh_to_end told before.trail (fine (ask question answered)))
@@ -183,17 +182,23 @@ is_traced (Some tree) references others taken spent config before after result h
     ∙ (met.comes (told_by sights) (record { tree = tree; sights = sights; holds = holds; sees = sees; are = refl })
     is_told).is
 
--- what the walk's questions look at is of the footprint
+-- what the walk's questions look at until it ends
 of_footprint : (told : Option Tree) (references : List ℕ) (taken : ℕ) (config : Config) (before : State) (path : List ℕ)
-    → before.folder.holds ≡ told → IsAskedBy (answers_of references taken before) (trace config) path
-    → IfSome told
-    (λ tree. (sights : Sights) → Sees tree before.known sights → Contains (footprint sights (generation config)) path)
-of_footprint None references taken config before path holds is = tt
-of_footprint (Some tree) references taken config before path holds is = λ sights sees.
-    footprint_contains sights (generation config) path
-    (subst (λ paths. Contains paths path) (sym (looks_are_of_questions sights config).looks)
-    (is (told_by sights) (record { tree = tree; sights = sights; holds = holds; sees = sees; are = refl })
-    (answers_always sights)))
+    → before.folder.holds ≡ told → before.trail ≡ no_trail
+    → IsAskedBy (answers_of references taken before) (trace config) path
+    → IfSome told (λ tree. (sights : Sights) → Sees tree before.known sights → IsLookedAt sights config path)
+of_footprint None references taken config before path holds fresh is = tt
+of_footprint (Some tree) references taken config before path holds fresh is = λ sights sees.
+    let reached = walk_looks sights no_trail no_trail (trace config) path refl
+    (subst (λ trail. Contains (looks_to_end (told_by sights) trail (trace config)) path) fresh
+    (is (told_by sights) (record { tree = tree; sights = sights; holds = holds; sees = sees; are = refl }))) in
+    record {
+      front = reached.front;
+      back = reached.back;
+      split = reached.split;
+      before = reached.before;
+      passes = reached.passes;
+    }
 
 pub traces_by : (references others : List ℕ) (taken spent : ℕ) (config : Config) (before after : State)
     (result : Result Gathered TraceFault) → before.trail ≡ no_trail
@@ -206,7 +211,7 @@ traces_by references others taken spent config before after result fresh met kin
       (IsOfFootprint config before.folder before.known)
       (learns_as before after (result ≡ Err Memory) (result ≡ Err Memory)
       (IsAskedBy (answers_of references taken before) (trace config)) (IsOfFootprint config before.folder before.known)
-      (λ e. e) (λ path. of_footprint before.folder.holds references taken config before path refl) met.learns);
+      (λ e. e) (λ path. of_footprint before.folder.holds references taken config before path refl fresh) met.learns);
   looks = record {
     tree = ap (λ (keeps : Kept). keeps.holds) met.keeps;
     writes = ap (λ (keeps : Kept). keeps.writes) met.keeps;

@@ -1,4 +1,4 @@
-mod FootprintPaths
+mod WalkLooks
 pub mod AnswerLemmas
 mod NamedModules
 mod Lending

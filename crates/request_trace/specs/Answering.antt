@@ -1,24 +1,24 @@
 -- The answers to a walk's questions by looks at a folder.
 --     result_by response            what a question comes to, as the result of a call
---     told_by sights                the answers by what stands at each path, and the looks of each question; each is
---                                   fresh
+--     told_by sights                the answers by what stands at each path, and the looks of each question up to the
+--                                   one that a limit stops; each is fresh
 --     ToldBy folder known told      these are the answers so, as far as looks tell
 --     references_of lookup steps    where the answers write
 --     answers_of references steps looks      what answers, in this state, behind so many steps
 use Rattle.std.specs.Prelude.{◌≡◌, ℕ, true, List, [], ◌∷◌, Some, Result, Ok, Err}
-use Rattle.tree_spec.specs.LookAskings.{Sights, looks}
-use Rattle.tree_spec.specs.LookLimits.{Trail}
+use Rattle.tree_spec.specs.LookAskings.{Sights}
+use Rattle.tree_spec.specs.LookLimits.{Trail, begun, look_limits, limited}
 use Rattle.tree_spec.specs.States.{FolderState}
 use Rattle.tree_spec.specs.Trees.{Tree}
 use Rattle.trace_spec.specs.declared.TraceFault.{TraceFault}
 use Rattle.trace_spec.specs.declared.TraceFault.TheVariants.{Limit, ReadFault, Memory}
-use Rattle.trace_spec.specs.Questions.{Question, Answer, put, answers, always}
+use Rattle.trace_spec.specs.Questions.{Question, Answer, put, answers}
 use Rattle.package_lookup.specs.declared.known.Known.{Known}
 use Rattle.package_lookup.specs.Looked.{Sees}
 use Rattle.package_lookup.specs.declared.lookup.Lookup.{Lookup}
 use Rattle.package_lookup.specs.Answered.{State}
 use Rattle.package_lookup.specs.Responses.{Response, given, fails, passes, not_read, no_memory, never}
-use Rattle.trace_walk.specs.Meeting.{Told, AnswererState}
+use Rattle.trace_walk.specs.Meeting.{Told, asked_to_end, AnswererState}
 
 -- no call comes to `never`
 abbrev pub result_by : {X : Type 0} → Response X → Result X TraceFault
@@ -32,8 +32,7 @@ abbrev pub told_by : Sights → Told Trail Question Answer
 told_by sights =
     record {
       answers = answers sights;
-      always = always sights;
-      looks = λ question. looks sights (put question);
+      looks = λ trail question. asked_to_end (limited look_limits sights) (begun trail) (put question);
       fresh = λ question. true;
     }
 

@@ -1,6 +1,6 @@
 -- The trace of a folder, of which something is known.
---     IsOfFootprint config before known path       where a tree is told, the path is of the generation's footprint, by
---                                                  all that looks tell
+--     IsOfFootprint config before known path       where a tree is told, its trace looks at the path up to where it ends,
+--                                                  by all that looks tell
 --     Traces config before known result after later      the trace, or its first refusal
 --     CountsModules gathered count      as many modules as that, as many sources, which are read, and no more than there
 --                                       may be
@@ -11,20 +11,20 @@
 --     TakesStepsToEnd config before known from to      where a tree is told, no more steps than that, by all that looks
 --                                                      tell
 --     TracesTables config before known result after later from to      the trace as the walk's tables, in so many steps
-use Rattle.std.specs.Prelude.{◌≡◌, ◌≤◌, ◌+◌, ℕ, List, length, Contains, Some, Result, Err, IfSome, IfOk}
+use Rattle.std.specs.Prelude.{◌≡◌, ◌≤◌, ◌+◌, ℕ, List, length, Some, Result, Err, IfSome, IfOk}
 use Rattle.std.specs.Prelude.{IfErr}
 use Rattle.tree_spec.specs.declared.LimitName.TheVariants.{Modules, Requests}
 use Rattle.tree_spec.specs.Limits.{limit_number}
-use Rattle.tree_spec.specs.LookAskings.{Sights, footprint}
+use Rattle.tree_spec.specs.LookAskings.{Sights}
 use Rattle.tree_spec.specs.LookLimits.{no_trail}
 use Rattle.tree_spec.specs.States.{FolderState, OnlyLooks}
 use Rattle.trace_spec.specs.declared.TraceFault.{TraceFault}
 use Rattle.trace_spec.specs.declared.TraceFault.TheVariants.{ReadFault, Memory}
 use Rattle.trace_spec.specs.Modules.{Config}
 use Rattle.trace_spec.specs.Checks.{Gathered}
-use Rattle.trace_spec.specs.Laws.{asked_by_end}
+use Rattle.trace_spec.specs.Laws.{asked_by_end, IsLookedAt}
 use Rattle.trace_spec.specs.Questions.{Question}
-use Rattle.trace_spec.specs.Traces.{traced, generation}
+use Rattle.trace_spec.specs.Traces.{traced}
 use Rattle.package_lookup.specs.declared.known.Known.{Known}
 use Rattle.package_lookup.specs.Looked.{Sees}
 use Rattle.package_lookup.specs.Answered.{State, state}
@@ -40,14 +40,15 @@ use Rattle.trace_walk.specs.Kinds.{IsOfWalk}
 abbrev pub known_of : FolderState → Known → State
 known_of folder known = state folder known no_trail
 
--- own: whatever stands at each path as far as a look tells
+-- own: whatever stands at each path as far as a look tells. The generation's footprint has each such path, and those
+-- behind a limit that stops the trace too
 abbrev pub IsOfFootprint : Config → FolderState → Known → List ℕ → Type 0
 IsOfFootprint config before known path =
     IfSome before.holds
-    (λ tree. (sights : Sights) → Sees tree known sights → Contains (footprint sights (generation config)) path)
+    (λ tree. (sights : Sights) → Sees tree known sights → IsLookedAt sights config path)
 
 -- own: unless a look fails or memory is wanting, the result is the definition's, whatever stands at each path as far as
--- looks tell. Whatever the result is, the folder was asked for paths of the footprint alone
+-- looks tell. Whatever the result is, the folder was asked for such paths alone
 pub record Traces (config : Config) (before : FolderState) (known : Known) (result : Result Gathered TraceFault)
     (after : FolderState) (later : Known) : Type 0 where
   pub is :

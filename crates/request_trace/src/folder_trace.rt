@@ -16,8 +16,9 @@ use trace_walk::{Tables, walk};
 use tree_model::Folder;
 
 /// The trace of a folder and a config, or its first refusal. No path is looked at that is known, none twice, and none
-/// that isn't of the generation's footprint. A trace takes at most one step for each module and for each request, where
-/// it is refused up to the refusal; whatever the folder tells, no more than there may be modules and requests.
+/// but the generation's: where a limit stops the trace, those up to the look that passes it. A trace takes at most one
+/// step for each module and for each request, where it is refused up to the refusal; whatever the folder tells, no more
+/// than there may be modules and requests.
 pub fn trace<F: Folder, L: Ledger>(
     alloc: Global,
     folder: &mut F,

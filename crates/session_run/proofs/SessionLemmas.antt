@@ -4,16 +4,15 @@ use Rattle.std.proofs.lemmas.Bool.{false≢true}
 use Rattle.std.proofs.lemmas.List.{append-nil, append_assoc, append_cancel_left}
 use Rattle.std.proofs.lemmas.List.Elements.{All-append, All-weaker}
 use Rattle.std.specs.FinMap.{get}
-use Rattle.std.specs.Prelude.{◌+◌, ◌*◌, ◌⊎◌, All, Contains, IfSome, is_some, option_map, take}
+use Rattle.std.specs.Prelude.{◌+◌, ◌*◌, ◌⊎◌, All, IfSome, is_some, option_map, take}
 use Rattle.tree_spec.specs.Counts.{Rose}
 use Rattle.tree_spec.specs.Limits.{limit_number}
-use Rattle.tree_spec.specs.LookAskings.{footprint}
 use Rattle.tree_spec.specs.States.{FolderState, SourceState, SinkState}
 use Rattle.tree_spec.specs.Trees.{Tree}
 use Rattle.tree_spec.specs.declared.LimitName.TheVariants.{Session as Limited}
 use Rattle.tree_spec.proofs.ToldStates.{if_some, if_two, if_all}
+use Rattle.trace_spec.specs.Laws.{IsLookedAt}
 use Rattle.trace_spec.specs.Modules.{Config}
-use Rattle.trace_spec.specs.Traces.{generation}
 use Rattle.config_spec.specs.Projects.{IsConfigOf}
 use Rattle.config_spec.specs.declared.Command.TheVariants.{Refresh}
 use Rattle.generation.specs.Generating.{AsksNoPathTwice, AsksFootprint}
@@ -102,9 +101,9 @@ module _ (config : Config) (before mid : FolderState) (session : Session) (openi
 
 module _ (config : Config) (before mid : FolderState) (asked : IfSome before.asked (λ old. AsksNoPathTwice old mid)) (footprint_of : IfSome before.asked (λ old. AsksFootprint config before.holds old mid))
     (is_config : IfSome before.holds (λ tree. IsConfigOf refresh_words tree Refresh config)) (taken : List ℕ) where
-  opening_among : (more : List (List ℕ)) → IfSome before.holds (λ tree. All (Contains (footprint (get tree) (generation config))) more) → IfSome before.holds (λ tree. All (IsSessionLook tree taken) more)
+  opening_among : (more : List (List ℕ)) → IfSome before.holds (λ tree. All (IsLookedAt (get tree) config) more) → IfSome before.holds (λ tree. All (IsSessionLook tree taken) more)
   opening_among more all =
-      if_two before.holds (λ tree is looks. All-weaker (Contains (footprint (get tree) (generation config))) (IsSessionLook tree taken) (λ path look. of_opening config is look) more looks) is_config all
+      if_two before.holds (λ tree is looks. All-weaker (IsLookedAt (get tree) config) (IsSessionLook tree taken) (λ path look. of_opening config is look) more looks) is_config all
 
   fresh_opening : IfSome before.asked (λ old. AsksFresh before.holds taken old mid)
   fresh_opening =

@@ -7,8 +7,8 @@
 use Rattle.std.specs.Prelude.{◌≡◌, ℕ, List, [], ◌∷◌, ◌++◌, Result, Ok, Err, is_some, Contains, if◌then◌else◌}
 use Rattle.std.specs.FinMap.{get}
 use Rattle.tree_spec.specs.FoldersAbove.{folders_from}
-use Rattle.tree_spec.specs.LookAskings.{Sights, footprint}
-use Rattle.trace_spec.specs.Traces.{generation}
+use Rattle.tree_spec.specs.LookAskings.{Sights}
+use Rattle.trace_spec.specs.Laws.{IsLookedAt}
 use Rattle.session_spec.specs.declared.Change.{Change}
 use Rattle.session_spec.specs.declared.Change.TheVariants.{Link, Unlink, Put, Drop}
 use Rattle.session_spec.specs.declared.EditFault.{EditFault}
@@ -40,5 +40,5 @@ pub data IsEditLook (state : SessionState) (edit : List Change) (path : List ℕ
   of_change : Contains (edit_looks (draft_of state) edit) path → IsEditLook state edit path
   of_generation :
       (draft : Draft) → edited (draft_of state) edit ≡ Ok draft
-      → Contains (footprint (get draft.tree) (generation (config_with state.config draft.entries))) path
+      → IsLookedAt (get draft.tree) (config_with state.config draft.entries) path
       → IsEditLook state edit path

@@ -7,14 +7,13 @@
 --     AsksWithin holds taken old after        for the project's path or for nothing, and then so
 use Rattle.std.specs.FinMap.{get}
 use Rattle.std.specs.List.{IsDistinct}
-use Rattle.std.specs.Prelude.{◌≡◌, ◌⊎◌, ◌++◌, ◌∷◌, [], ℕ, List, take, bytes_eq, All, Contains, Option, Some, IfSome}
+use Rattle.std.specs.Prelude.{◌≡◌, ◌⊎◌, ◌++◌, ◌∷◌, [], ℕ, List, take, bytes_eq, All, Option, Some, IfSome}
 use Rattle.tree_spec.specs.Limits.{limit_number}
-use Rattle.tree_spec.specs.LookAskings.{footprint}
 use Rattle.tree_spec.specs.States.{FolderState}
 use Rattle.tree_spec.specs.Trees.{Tree}
 use Rattle.tree_spec.specs.declared.LimitName.TheVariants.{Session}
+use Rattle.trace_spec.specs.Laws.{IsLookedAt}
 use Rattle.trace_spec.specs.Modules.{Config}
-use Rattle.trace_spec.specs.Traces.{generation}
 use Rattle.config_spec.specs.Projects.{project_path, IsConfigOf}
 use Rattle.config_spec.specs.declared.Command.TheVariants.{Refresh}
 use Rattle.session_spec.specs.declared.Change.{Change}
@@ -44,7 +43,7 @@ pub record IsTriedLook (first : SessionState) (input path : List ℕ) : Type 0 w
 pub data IsSessionLook (tree : Tree) (input path : List ℕ) : Type 0 where
   of_opening :
       (config : Config) → IsConfigOf refresh_words tree Refresh config
-      → Contains (footprint (get tree) (generation config)) path → IsSessionLook tree input path
+      → IsLookedAt (get tree) config path → IsSessionLook tree input path
   of_edit :
       (first : SessionState) → OpensAt tree first → IsTriedLook first (take (limit_number Session) input) path
       → IsSessionLook tree input path

@@ -20,9 +20,10 @@ use Rattle.trace_spec.specs.Checks.{Gathered}
 use Rattle.trace_spec.specs.Traces.{trace, result_of, traced, generation}
 use Rattle.trace_spec.specs.Laws.{without_question, looks_of, CountsGeneration, StopsGeneration}
 use Rattle.trace_spec.specs.Laws.{LooksAreOfQuestions}
+use Rattle.trace_spec.proofs.LookedPaths.{looked_within, looked_up_to}
 
 -- ends that differ in the paths of the last question alone
-abbrev Alike : {X : Type 0} → LookEnd X → LookEnd X → Type 0
+abbrev pub Alike : {X : Type 0} → LookEnd X → LookEnd X → Type 0
 Alike one other = without_question one ≡ without_question other
 
 from_zero : (n : ℕ) → 0 + n ≡ n
@@ -89,7 +90,7 @@ module _ (sights : Sights) where
       (λ found after. evaluated (limited look_limits sights) after (next found))
       (λ p s q r. looks_alike p s q r (next (sights path)))
 
-  looks_behind : {X : Type 0} (one other : Trail) (asking : LookAsking X) → begun one ≡ begun other
+  pub looks_behind : {X : Type 0} (one other : Trail) (asking : LookAsking X) → begun one ≡ begun other
       → Alike (evaluated (limited look_limits sights) one asking) (evaluated (limited look_limits sights) other asking)
   looks_behind one other asking same =
       looks_alike one.paths one.size one.question other.question asking
@@ -144,12 +145,9 @@ module _ (sights : Sights) where
     stops name trail (stopped limit after) is same =
         let limits : limit ≡ name = cc in
         let trails : begun after ≡ begun trail = cc in
-        record {
-          before = after;
-          first = (first_limit_stops look_limits sights no_trail (generation config) name after).0
-              (is ∙ ap (λ l. stopped l after) limits);
-          same = trails;
-        }
+        let first = (first_limit_stops look_limits sights no_trail (generation config) name after).0
+        (is ∙ ap (λ l. stopped l after) limits) in
+        record { before = after; first = first; same = trails; up_to = looked_up_to sights config name after first }
 
   result_without : (end : LookEnd (Result Gathered TraceFault)) → result_of (without_question end) ≡ result_of end
   result_without (ends result trail) = refl
@@ -176,4 +174,5 @@ looks_are_of_questions sights config = record {
       result_is sights config
       ∙ (ap result_of (same_limited_law look_limits sights other no_trail (generation config) agrees)
       ∙ sym (result_is other config));
+  within = looked_within sights config;
 }

@@ -15,6 +15,7 @@ pub mod NeedLemmas
 pub mod SpellingLemmas
 pub mod Clashes
 pub mod TextLimits
+mod LookedPaths
 pub mod Generations
 pub mod SparedWalks
 pub mod CopiedTraces

@@ -11,7 +11,7 @@ use Rattle.tree_spec.specs.Laws.{IsSameAsking}
 use Rattle.tree_spec.specs.declared.LimitName.{LimitName}
 use Rattle.tree_spec.specs.declared.LimitName.TheVariants.{Modules, Requests, Brackets, ModuleRequests, Specifier}
 use Rattle.tree_spec.specs.Limits.{limit_number}
-use Rattle.tree_spec.specs.LookAskings.{Sights, looks, footprint}
+use Rattle.tree_spec.specs.LookAskings.{Sights, look_at_each, looks, footprint}
 use Rattle.tree_spec.specs.LookLimits.{Trail, no_trail, begun, look_limits, limited, IsFirstLimit, new_size}
 use Rattle.url_spec.specs.Specifiers.{is_relative, ends_in_slash, as_url, normalized}
 use Rattle.module_spec.specs.declared.request.Request.{Request}
@@ -473,19 +473,30 @@ without_question (stopped limit trail) = stopped limit (begun trail)
 abbrev pub looks_of : Sights → List Question → List (List ℕ)
 looks_of sights asked = flat_map (λ question. looks sights (put question)) asked
 
+-- own: one of the generation's looks is at the path, and those before it pass no limit, whether the trace is refused or
+-- not; so none is behind the look at which a limit stops it
+pub record IsLookedAt (sights : Sights) (config : Config) (path : List ℕ) : Type 0 where
+  pub front : List (List ℕ)
+  pub back : List (List ℕ)
+  pub split : looks sights (generation config) ≡ front ++ path ∷ back
+  pub before : Trail
+  pub passes : evaluated (limited look_limits sights) no_trail (look_at_each front) ≡ ends tt before
+
 -- the trail has counted the looks of a generation
 pub record CountsGeneration (sights : Sights) (config : Config) (trail : Trail) : Type 0 where
   pub paths : trail.paths ≡ footprint sights (generation config)
   pub size : trail.size ≡ new_size sights [] (looks sights (generation config))
 
--- of the looks of a generation, one is the first to pass a limit, and this is the trail before it
+-- of the looks of a generation, one is the first to pass a limit, this is the trail before it, and its trace looks at no
+-- path but those up to that look
 pub record StopsGeneration (sights : Sights) (config : Config) (name : LimitName) (trail : Trail) : Type 0 where
   pub before : Trail
   pub first : IsFirstLimit look_limits sights no_trail (looks sights (generation config)) name before
   pub same : begun before ≡ begun trail
+  pub up_to : (path : List ℕ) → IsLookedAt sights config path → Contains (first.front ++ first.path ∷ []) path
 
--- a generation looks at what its questions look at; its limits are those of these looks; and what stands at the paths
--- of its footprint decides it
+-- a generation looks at what its questions look at; its limits are those of these looks; what stands at the paths of
+-- its footprint decides it; and what its trace looks at is of that
 pub record LooksAre (sights : Sights) (config : Config) : Type 0 where
   pub looks : looks sights (generation config) ≡ looks_of sights (questions (always sights) (trace config))
   pub same_end : without_question (evaluated (answers sights) no_trail (trace config))
@@ -498,8 +509,10 @@ pub record LooksAre (sights : Sights) (config : Config) : Type 0 where
       → StopsGeneration sights config name trail
   pub decided : (other : Sights) → AgreesOn sights other (footprint sights (generation config))
       → traced sights config ≡ traced other config
+  pub within : (path : List ℕ) → IsLookedAt sights config path
+      → Contains (footprint sights (generation config)) path
 
 -- whatever stands at the paths, a generation looks at what its questions look at, its limits are those of these looks,
--- and what stands at the paths of its footprint decides it
+-- what stands at the paths of its footprint decides it, and its trace looks at none but these
 abbrev pub LooksAreOfQuestions : Type 0
 LooksAreOfQuestions = (sights : Sights) (config : Config) → LooksAre sights config

@@ -186,7 +186,8 @@ pub fn limits_of_texts()
     ensures { LimitsOfTexts }
 {}
 
-/// What a generation looks at are the looks of its questions, and its limits are those of these looks.
+/// What a generation looks at are the looks of its questions, its limits are those of these looks, and its trace looks
+/// at no path beside them.
 pub fn looks_are_of_questions()
     ensures { LooksAreOfQuestions }
 {}

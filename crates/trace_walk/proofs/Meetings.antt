@@ -2,14 +2,12 @@
 --     asked_first, asked_behind          what a part asks for, the whole does
 --     spent_first, spent_then            how many fresh questions a whole asks, by its parts
 --     Left before whole middle rest      whatever the rest comes to from here, the whole comes to
-use Rattle.std.proofs.Common.{◌≡◌, ◌≤◌, ◌+◌, ◌++◌, ◌∷◌, [], ℕ, Bool, true, false, List, length, Result, Ok, Err, refl, sym, ap, ◌∙◌, subst, arith}
+use Rattle.std.proofs.Common.{◌≡◌, ◌≤◌, ◌+◌, ◌++◌, ◌∷◌, [], ℕ, Bool, true, false, List, length, Result, Ok, Err, refl, sym, ap, ◌∙◌, subst, arith, append_assoc}
 use Rattle.std.specs.Prelude.{Contains, filter, cond}
-use Rattle.std.proofs.lemmas.Grind.{flat_map-append}
 use Rattle.std.proofs.lemmas.List.Elements.{Contains-append_left, Contains-append_right}
-use Rattle.asking_spec.specs.Askings.{Asking, answered, ask, outcome, questions, and_then, on_ok, and_ok}
+use Rattle.asking_spec.specs.Askings.{Asking, answered, ask, and_then, on_ok, and_ok}
 use Rattle.asking_spec.specs.Evaluation.{Ended, ends, stopped, then_ended, Answers, evaluated}
-use Rattle.asking_spec.proofs.AskingLemmas.{questions_then}
-use Rattle.asking_spec.proofs.EvaluationLemmas.{ends_then, refused_then, stopped_then, ends_outcome}
+use Rattle.asking_spec.proofs.EvaluationLemmas.{ends_then, refused_then, stopped_then}
 use Rattle.tree_spec.specs.declared.LimitName.{LimitName}
 use Rattle.tree_spec.specs.Counts.{Rose}
 use Rattle.trace_spec.specs.declared.TraceFault.{TraceFault}
@@ -18,8 +16,8 @@ use Rattle.trace_spec.specs.Traces.{result_of, state_of}
 use Rattle.package_lookup.specs.Answered.{IsCovered}
 use Rattle.package_lookup.specs.Learning.{Learns}
 use Rattle.package_lookup.proofs.Learnings.{learns_then, learns_nothing, learns_as}
-use Rattle.trace_walk.specs.Meeting.{Told, Outside, IsTold, looks_of, IsAskedBy, Comes, Met}
-use Rattle.trace_walk.specs.Meeting.{asked_then, asked_to_end, fresh_to_end}
+use Rattle.trace_walk.specs.Meeting.{Told, Outside, IsTold, IsAskedBy, Comes, Met}
+use Rattle.trace_walk.specs.Meeting.{asked_then, asked_to_end, looks_to_end, fresh_to_end}
 use Rattle.trace_walk.specs.Walking.{IsGiven}
 
 abbrev pub failed : (X : Type 0) → TraceFault → Result X TraceFault
@@ -52,36 +50,7 @@ comes_then answers before middle after part next value result one two =
 pub told_err : {X Y : Type 0} (fault : TraceFault) → IsTold {X = Y} (Err fault) → IsTold {X = X} (Err fault)
 told_err fault told = ((λ e. told.0 (cc)), (λ e. told.1 (cc)))
 
--- ---- what a part asks for, the whole does
-
-pub asked_first : {T Q : Type 0} {A : Q → Type 0} {X Y : Type 0} (before : Outside T Q A)
-    (part : Asking Q A (Result X TraceFault)) (next : X → Asking Q A (Result Y TraceFault)) (path : List ℕ)
-    → IsAskedBy before part path → IsAskedBy before (and_ok part next) path
-asked_first before part next path is = λ told tells always.
-    let rest = questions told.always (on_ok next (outcome told.always part)) in
-    subst (λ paths. Contains paths path)
-    (sym (ap (looks_of told) (questions_then told.always part (on_ok next))
-    ∙ flat_map-append told.looks (questions told.always part) rest))
-    (Contains-append_left (looks_of told (questions told.always part)) (looks_of told rest) path (is told tells always))
-
-pub asked_behind : {T Q : Type 0} {A : Q → Type 0} {X Y : Type 0} (before middle : Outside T Q A)
-    (part : Asking Q A (Result X TraceFault)) (next : X → Asking Q A (Result Y TraceFault)) (value : X)
-    (path : List ℕ) → Met before part (Ok value) middle → IsAskedBy middle (next value) path
-    → IsAskedBy before (and_ok part next) path
-asked_behind {X = X} before middle part next value path first is = λ told tells always.
-    let one = first.comes told tells ((λ e. cc), (λ e. cc)) in
-    let found : succeeded X value ≡ outcome told.always part =
-    ends_outcome told.answers told.always always before.state middle.state part (Ok value)
-    (ended_ok (evaluated told.answers before.state part) value middle.state one.is one.leaves) in
-    let rest = questions told.always (next value) in
-    subst (λ paths. Contains paths path)
-    (sym (ap (looks_of told) (questions_then told.always part (on_ok next)
-    ∙ ap (λ r. questions told.always part ++ questions told.always (on_ok next r)) (sym found))
-    ∙ flat_map-append told.looks (questions told.always part) rest))
-    (Contains-append_right (looks_of told (questions told.always part)) (looks_of told rest) path
-    (is told (first.told told tells) always))
-
--- ---- how many fresh questions a whole asks
+-- ---- what is asked, by its parts
 
 then_asked : {X Y T S Q : Type 0} (first : Ended X T S) (goes : X → T → Ended Y T S) (whole part : X → T → List Q)
     (rest : Y → T → List Q) → ((x : X) (t : T) → whole x t ≡ part x t ++ asked_then (goes x t) rest)
@@ -99,6 +68,46 @@ asked_in_parts answers state (ask question more) next =
     (then_asked (answers state question) (λ answer after. evaluated answers after (more answer)) _ _
     (λ value after. asked_to_end answers after (next value))
     (λ answer after. asked_in_parts answers after (more answer) next))
+
+-- ---- what a part asks for, the whole does
+
+looks_in_parts : {T Q : Type 0} {A : Q → Type 0} {X Y : Type 0} (told : Told T Q A) (state : T) (part : Asking Q A X)
+    (next : X → Asking Q A Y) → looks_to_end told state (and_then part next)
+    ≡ looks_to_end told state part
+    ++ asked_then (evaluated told.answers state part) (λ value after. looks_to_end told after (next value))
+looks_in_parts told state (answered value) next = refl
+looks_in_parts told state (ask question more) next =
+    ap (λ looks. told.looks state question ++ looks)
+    (then_asked (told.answers state question) (λ answer after. evaluated told.answers after (more answer)) _
+    (λ answer after. looks_to_end told after (more answer)) (λ value after. looks_to_end told after (next value))
+    (λ answer after. looks_in_parts told after (more answer) next))
+    ∙ sym (append_assoc (told.looks state question)
+    (asked_then (told.answers state question) (λ answer after. looks_to_end told after (more answer)))
+    (asked_then (evaluated told.answers state (ask question more)) (λ value after. looks_to_end told after (next value))))
+
+pub asked_first : {T Q : Type 0} {A : Q → Type 0} {X Y : Type 0} (before : Outside T Q A)
+    (part : Asking Q A (Result X TraceFault)) (next : X → Asking Q A (Result Y TraceFault)) (path : List ℕ)
+    → IsAskedBy before part path → IsAskedBy before (and_ok part next) path
+asked_first before part next path is = λ told tells.
+    subst (λ paths. Contains paths path) (sym (looks_in_parts told before.state part (on_ok next)))
+    (Contains-append_left (looks_to_end told before.state part)
+    (asked_then (evaluated told.answers before.state part) (λ value after. looks_to_end told after (on_ok next value)))
+    path (is told tells))
+
+pub asked_behind : {T Q : Type 0} {A : Q → Type 0} {X Y : Type 0} (before middle : Outside T Q A)
+    (part : Asking Q A (Result X TraceFault)) (next : X → Asking Q A (Result Y TraceFault)) (value : X)
+    (path : List ℕ) → Met before part (Ok value) middle → IsAskedBy middle (next value) path
+    → IsAskedBy before (and_ok part next) path
+asked_behind before middle part next value path met is = λ told tells.
+    let one = met.comes told tells ((λ e. cc), (λ e. cc)) in
+    let first = looks_to_end told before.state part in
+    subst (λ paths. Contains paths path)
+    (sym (looks_in_parts told before.state part (on_ok next)
+    ∙ ap (λ end. first ++ asked_then end (λ result after. looks_to_end told after (on_ok next result)))
+    (ended_ok (evaluated told.answers before.state part) value middle.state one.is one.leaves)))
+    (Contains-append_right first (looks_to_end told middle.state (next value)) path (is told (met.told told tells)))
+
+-- ---- how many fresh questions a whole asks
 
 one_more : {Q : Type 0} (is : Bool) (question : Q) (whole part : List Q) (rest : ℕ) → length whole ≡ length part + rest
     → length (cond is (question ∷ whole) whole) ≡ length (cond is (question ∷ part) part) + rest

@@ -1,6 +1,6 @@
 -- What is known of answers from outside, and what a call that asks for them comes to.
---     Told T Q A                       answers, what each question is answered where nothing stops it, at which paths
---                                      it looks, and whether it is fresh: the answer to another one is kept
+--     Told T Q A                       answers, at which paths each question looks in each state until it ends or is
+--                                      stopped, and whether it is fresh: the answer to another one is kept
 --     Outside T Q A                    which answers are those that are told; the state that they see; how many looks
 --                                      failed; how many steps were taken; what stays as it is; what was looked at, and
 --                                      is known
@@ -13,13 +13,14 @@
 --     Met before asking result after   the call comes to what the asking comes to, unless a look fails or memory is
 --                                      wanting; it takes at most one step for each fresh question; and what it learns
 --                                      of the folder
---     looks_of told asked              the paths at which these questions look
---     IsAskedBy before asking path     the asking's questions look at the path, by all answers that are told
+--     looks_to_end told state asking   the paths at which those questions look
+--     IsAskedBy before asking path     the questions that the asking asks until it ends or is stopped look at the path, by
+--                                      all answers that are told
 --     AnswererState                    the answers to the questions of a walk, which see a trail of looks
-use Rattle.std.specs.Prelude.{◌≡◌, ◌≢◌, ◌≤◌, ◌+◌, ℕ, Bool, List, [], ◌∷◌, length, filter, flat_map, Contains, Option}
+use Rattle.std.specs.Prelude.{◌≡◌, ◌≢◌, ◌≤◌, ◌+◌, ℕ, Bool, List, [], ◌∷◌, length, filter, ◌++◌, Contains, Option}
 use Rattle.std.specs.Prelude.{Result, Ok, Err}
-use Rattle.asking_spec.specs.Askings.{Asking, answered, ask, and_then, questions}
-use Rattle.asking_spec.specs.Evaluation.{Ended, ends, stopped, Answers, evaluated, AreAlways}
+use Rattle.asking_spec.specs.Askings.{Asking, answered, ask, and_then}
+use Rattle.asking_spec.specs.Evaluation.{Ended, ends, stopped, Answers, evaluated}
 use Rattle.tree_spec.specs.declared.LimitName.{LimitName}
 use Rattle.tree_spec.specs.Counts.{Rose}
 use Rattle.tree_spec.specs.LookLimits.{Trail}
@@ -39,8 +40,7 @@ pub record Kept : Type 0 where
 
 pub record Told (T Q : Type 0) (A : Q → Type 0) : Type 0 where
   pub answers : Answers T LimitName Q A
-  pub always : (question : Q) → A question
-  pub looks : Q → List (List ℕ)
+  pub looks : T → Q → List (List ℕ)
   pub fresh : Q → Bool
 
 -- own: more than one answer can be told where what is known leaves more than one open
@@ -55,15 +55,6 @@ pub record Outside (T Q : Type 0) (A : Q → Type 0) : Type 1 where
 abbrev pub fine : {Q : Type 0} {A : Q → Type 0} {X : Type 0} → Asking Q A X → Asking Q A (Result X TraceFault)
 fine asking = and_then asking (λ value. answered (Ok value))
 
-abbrev pub looks_of : {T Q : Type 0} {A : Q → Type 0} → Told T Q A → List Q → List (List ℕ)
-looks_of told asked = flat_map told.looks asked
-
--- own: of answers that are always the same, unless a limit stops them
-abbrev pub IsAskedBy : {T Q X : Type 0} {A : Q → Type 0} → Outside T Q A → Asking Q A X → List ℕ → Type 0
-IsAskedBy {T} {Q} {X} {A} before asking path =
-    (told : Told T Q A) → before.told told → AreAlways told.answers told.always
-    → Contains (looks_of told (questions told.always asking)) path
-
 -- goes on behind an answer
 abbrev pub asked_then : {X T S Q : Type 0} → Ended X T S → (X → T → List Q) → List Q
 asked_then (ends answer state) next = next answer state
@@ -73,6 +64,18 @@ abbrev pub asked_to_end : {T S Q : Type 0} {A : Q → Type 0} {X : Type 0} → A
 asked_to_end answers state (answered value) = []
 asked_to_end answers state (ask question next) =
     question ∷ asked_then (answers state question) (λ answer after. asked_to_end answers after (next answer))
+
+abbrev pub looks_to_end : {T Q : Type 0} {A : Q → Type 0} {X : Type 0} → Told T Q A → T → Asking Q A X
+    → List (List ℕ)
+looks_to_end told state (answered value) = []
+looks_to_end told state (ask question next) =
+    told.looks state question
+    ++ asked_then (told.answers state question) (λ answer after. looks_to_end told after (next answer))
+
+-- own: behind a question that is stopped nothing is asked
+abbrev pub IsAskedBy : {T Q X : Type 0} {A : Q → Type 0} → Outside T Q A → Asking Q A X → List ℕ → Type 0
+IsAskedBy {T} {Q} {X} {A} before asking path =
+    (told : Told T Q A) → before.told told → Contains (looks_to_end told before.state asking) path
 
 abbrev pub fresh_to_end : {T Q : Type 0} {A : Q → Type 0} {X : Type 0} → Told T Q A → T → Asking Q A X → List Q
 fresh_to_end told state asking = filter told.fresh (asked_to_end told.answers state asking)

@@ -10,7 +10,7 @@
 --     IsPutNew before path entry result after         an entry is placed where its place is free, or it isn't free
 --     IsPutFile before path bytes result after        a file is made, also in the place of one that is there
 use Rattle.std.specs.Prelude.{◌≡◌, ◌≢◌, ◌⊎◌, ℕ, List, codes, Bool, true, false, Option, Some, None, Result, Ok}
-use Rattle.std.specs.BTreeMap.{BTreeMap}
+use Rattle.std.specs.HashMap.{HashMap}
 use Rattle.std.specs.Borrow.{Bor}
 use Rattle.std.specs.FinMap.{get, from_entries}
 use Rattle.tree_spec.specs.declared.Entry.{Entry}
@@ -19,7 +19,7 @@ use Rattle.tree_spec.specs.Paths.{IsParent, IsAbove}
 use Rattle.tree_spec.specs.Trees.{Tree, Places}
 
 -- own: the tree of a map from paths to entries
-abbrev pub tree_of : BTreeMap (List ℕ) Entry → Tree
+abbrev pub tree_of : {S : Type 0} → HashMap (List ℕ) Entry S → Tree
 tree_of entries = from_entries entries.entries
 
 -- own: the root is a folder, and above a path so is the parent of each entry

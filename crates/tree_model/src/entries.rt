@@ -8,18 +8,18 @@ ghost use Rattle.tree_model.specs.Entries.{tree_of, IsSettled, IsPlaced, IsPutNe
 use crate::Path;
 use shared_types::{Bytes, Memory};
 use std::alloc::Global;
-use std::collections::BTreeMap;
+use std::collections::HashMap;
 use tree_spec::{Entry, Look};
 
 /// The entries of a folder in memory.
-pub(crate) type Entries = BTreeMap<Path, Entry>;
+pub(crate) type Entries = HashMap<Path, Entry>;
 
 /// The root alone.
 pub(crate) fn start(alloc: Global) -> Result<Entries, Memory>
     ensures root { IfOk result (λ entries. tree_of entries ≡ bare_tree) }
     ensures tree { IfOk result (λ entries. IsTree (tree_of entries)) }
 {
-    let mut entries = BTreeMap::new(alloc);
+    let mut entries = HashMap::new(alloc);
     entries.insert(Path::root(alloc)?, Entry::Directory)?;
     Ok(entries)
 }

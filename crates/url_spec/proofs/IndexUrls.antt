@@ -42,7 +42,7 @@ last_is_slash (a ∷ b ∷ c ∷ front) =
     longer [] = omega arith
     longer (x ∷ xs) = omega arith
 
-shortened : (front : List ℕ) → shorten_path File (front ++ 47 ∷ []) ≡ front
+pub shortened : (front : List ℕ) → shorten_path File (front ++ 47 ∷ []) ≡ front
 unfolding shorten_path
 shortened front =
     cond-false _ _ _ (last_is_slash front)

@@ -16,3 +16,5 @@ pub mod FileUrlParts
 pub mod SpelledPaths
 pub mod UrlsInFolders
 pub mod IndexUrls
+pub mod PlainTexts
+pub mod FileJoins

@@ -11,6 +11,7 @@ use Rattle.url.specs.Parser.{parse_url}
 use Rattle.url.specs.Parts.{Parts, IsValid}
 use Rattle.tree_spec.specs.Paths.{IsPath, IsAbove}
 use Rattle.url_spec.specs.Bases.{base_of, IsBase}
+use Rattle.url_spec.specs.FileJoins.{IsFolderOf, LeadsTo}
 use Rattle.url_spec.specs.FileUrls.{IsPlace, file_text, names_host, spelled_path, url_path}
 use Rattle.url_spec.specs.PathTests.{is_path, is_served}
 use Rattle.url_spec.specs.Parsing.{parse_alone, parse_against, IsUrl, text_of}
@@ -127,3 +128,14 @@ IndexUrls =
     (folder text url : List ℕ) → IsPath folder → folder ≢ codes "/" → All (λ b. b < 256) folder
     → Contains index_texts text → parse_against (file_text folder true) text ≡ Some url
     → begins url (file_text folder true) ≡ true
+
+-- own law: a text that leads to a path is joined to the URL of a file or a folder without a parse, behind `./` or where
+-- it begins with `../`
+abbrev pub FileJoins : Type 0
+FileJoins =
+    (path above text target : List ℕ) (folder : Bool) → IsPath path → All (λ b. b < 256) path
+    → IsFolderOf path folder above
+    → (LeadsTo above text target
+    → parse_against (file_text path folder) (codes "./" ++ text) ≡ Some (file_text target false))
+    × (LeadsTo above (codes "../" ++ text) target
+    → parse_against (file_text path folder) (codes "../" ++ text) ≡ Some (file_text target false))

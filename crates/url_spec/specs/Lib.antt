@@ -7,5 +7,6 @@ pub mod Suffixes
 pub mod ServedPaths
 pub mod PathTests
 pub mod FileUrls
+pub mod FileJoins
 pub mod Laws
 pub mod WorkedExamples

@@ -4,7 +4,7 @@
 
 ghost use Rattle.url_spec.specs.Laws.{SameAgainst, FilesEndInNoSlash, FileUrls, AsciiUrls, KeptWhole, KeptUrls, NoUrls};
 ghost use Rattle.url_spec.specs.Laws.{OwnUrls, NormalTexts, BasesStay, OneServed, OnePlace, PathsAreTested};
-ghost use Rattle.url_spec.specs.Laws.{NamedInFolder, IndexUrls};
+ghost use Rattle.url_spec.specs.Laws.{NamedInFolder, IndexUrls, FileJoins};
 ghost use Rattle.url_spec.specs.WorkedExamples.{WorkedExamples};
 
 /// What parsing gives, with or without a base, is the text of a URL, and so is a web name.
@@ -85,6 +85,11 @@ pub fn named_in_folder()
 /// The URLs of the files that Node tries in a folder begin with the folder's.
 pub fn index_urls()
     ensures { IndexUrls }
+{}
+
+/// A relative text that leads to a path is joined to a file URL without a parse.
+pub fn file_joins()
+    ensures { FileJoins }
 {}
 
 /// The tests of paths, and of what is served, say exactly what they are named for.

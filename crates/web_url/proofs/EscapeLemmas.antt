@@ -62,3 +62,10 @@ pub escape_end : (escape text : List ℕ) → length text ≡ 0 → holds_escape
 unfolding holds_escape
 escape_end escape [] e = refl
 escape_end escape (b ∷ rest) e = absurd (omega arith)
+
+pub plain_byte : (b : ℕ) → not (should_percent_encode ESCAPED b) ≡ is_plain b
+plain_byte b = ap not (same_bytes b) ∙ twice (is_plain b)
+  where
+    twice : (x : Bool) → not (not x) ≡ x
+    twice true = refl
+    twice false = refl

@@ -6,3 +6,4 @@ pub mod AskLemmas
 pub mod PathLemmas
 pub mod SuffixLemmas
 pub mod PlainLemmas
+pub mod FileLemmas

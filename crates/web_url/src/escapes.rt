@@ -1,9 +1,9 @@
 //! Percent-escapes of paths, and URLs without their suffixes.
 ghost use Rattle.std.specs.Prelude.{◌≡◌, ◌<◌, ◌≤◌, ◌++◌, ◌==◌, All, OnOk, IfOk, string_bytes};
-ghost use Rattle.std.specs.List.{list_any};
+ghost use Rattle.std.specs.List.{list_all, list_any};
 ghost use Rattle.std.specs.Prelude.{IsAscii, flat_map, length, take, bytes_eq};
 ghost use Rattle.url.specs.Input.{lowercase};
-ghost use Rattle.url_spec.specs.WebNames.{escaped};
+ghost use Rattle.url_spec.specs.WebNames.{escaped, is_plain};
 ghost use Rattle.url_spec.specs.Suffixes.{suffix_start, before_suffix, suffix_of, is_suffix_mark};
 ghost use Rattle.url_spec.specs.ServedPaths.{holds_escape, read_segment, segments};
 
@@ -42,6 +42,19 @@ pub fn push_escaped(out: &mut String, path: &str) -> Result<(), Memory>
     ensures bytes { All (λ b. b < 256) path.now }
 {
     utf8_percent_encode(path, ESCAPED).append_to(out)
+}
+
+/// Whether a URL has each byte of a text as it is.
+pub fn is_plain_text(text: &str) -> bool
+    ensures { result ≡ list_all is_plain text.now }
+{
+    text.as_bytes().iter().all(|byte| is_plain(*byte))
+}
+
+fn is_plain(byte: u8) -> bool
+    ensures { result ≡ is_plain byte }
+{
+    !ESCAPED.should_percent_encode(byte)
 }
 
 /// A URL's text before its query and fragment, and these.

@@ -5,6 +5,7 @@
 mod base;
 mod escapes;
 mod file;
+mod joins;
 mod names;
 mod paths;
 mod specifier;

@@ -131,8 +131,9 @@ fn below<'a>(base: &Base, url: &'a WebUrl) -> Option<&'a str>
     after_front(split_suffix(url.as_str()).0, base.as_str())
 }
 
+/// What an ASCII text has behind this front, where it begins with it.
 #[tactic(auto, using(crate::proofs::NameLemmas::fronts))]
-fn after_front<'a>(text: &'a str, front: &str) -> Option<&'a str>
+pub fn after_front<'a>(text: &'a str, front: &str) -> Option<&'a str>
     requires { IsAscii text.now }
     ensures { MatchOption result ((rest : List ℕ) → text.now ≡ front.now ++ rest → ⊥)
         (λ rest. text.now ≡ front.now ++ rest.now) }

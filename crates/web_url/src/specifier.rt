@@ -59,10 +59,13 @@ pub fn is_relative(text: &str) -> bool
 }
 
 /// What a specifier is by its scheme, parsed without a base.
-#[tactic(auto, unfolding(url_spec::specs::Schemes::scheme_of))]
+#[tactic(auto, using(crate::proofs::AskLemmas::relatives), unfolding(url_spec::specs::Schemes::scheme_of))]
 pub fn scheme_of(alloc: Global, specifier: &str) -> Result<Scheme, Memory>
     ensures { IfOk result (λ scheme. scheme ≡ scheme_named (scheme_of specifier.now)) }
 {
+    if is_relative(specifier) {
+        return Ok(Scheme::NotUrl);
+    }
     match WebUrl::parse(alloc, specifier)? {
         None => Ok(Scheme::NotUrl),
         Some(url) => {

@@ -13,3 +13,9 @@ returns-clause-tree c =
     (tree_insert c.new-entries.result c.insert.new.self c.in_ok-root.field-0 Directory c.in_ok-insert.ensures.updates
     ∙ ap (λ key. insert (tree_of c.new-entries.result) key Directory) c.in_ok-root.ensures
     ∙ ap (λ (entries : List (List ℕ × Entry)). insert (from_entries entries) (codes "/") Directory) c.new-entries.ensures.empty)
+
+pub returns-clause-root : goal.returns-clause-root
+returns-clause-root c =
+    tree_insert c.new-entries.result c.insert.new.self c.in_ok-root.field-0 Directory c.in_ok-insert.ensures.updates
+    ∙ ap (λ key. insert (tree_of c.new-entries.result) key Directory) c.in_ok-root.ensures
+    ∙ ap (λ (entries : List (List ℕ × Entry)). insert (from_entries entries) (codes "/") Directory) c.new-entries.ensures.empty
