@@ -8,10 +8,11 @@ use Rattle.std.specs.Prelude.{◌⊎◌, codes, map, reverse, Result, Ok, Err, I
 use Rattle.std.proofs.lemmas.Bool.{true≢false, cases_Bool, cond-true, cond-false, cond_both}
 use Rattle.std.proofs.lemmas.List.{drop_all, nil_from_length, reverse-append}
 use Rattle.url_spec.specs.Specifiers.{begins}
+use Rattle.json_spec.specs.PropertyOrder.{is_array_index}
 use Rattle.json_spec.specs.Value.{Json, a_null, a_bool, a_number, a_text, a_list, an_object, Items, no_items, an_item, Members, no_members, a_member}
 use Rattle.node_spec.specs.declared.BareAnswer.TheVariants as bare_answer
 use Rattle.node_spec.specs.declared.Outcome.{Outcome}
-use Rattle.node_spec.specs.declared.Outcome.TheVariants as out
+use Rattle.node_spec.specs.declared.Outcome.TheVariants as outcome
 use Rattle.node_spec.specs.PackageTargets.{Rules, Call, leaves_package, is_invalid_match, with_match, own_outcome, names_package, ResolvesText, has_index_key, is_tried, is_undefined, is_passed, last_of, ResolvesTarget, ResolvesMembers, ResolvesItems}
 use Rattle.node_spec.specs.PackageTargets.ResolvesText.{own_place, bare, no_target}
 use Rattle.node_spec.specs.PackageTargets.ResolvesTarget.{text_target, index_key, object_target, empty_list, list_target, null_target, bool_target, number_target}
@@ -34,20 +35,20 @@ use Rattle.condition_match.specs.declared.reducing.Reduced.TheVariants.{Undefine
 
 -- ---- what comes to one thing alone
 
-by_null : (rules : Rules) (target : Json) → ResolvesTarget rules target [] out.Null → (asked : List Call) (out : Outcome) → ResolvesTarget rules a_null asked out → ResolvesTarget rules target asked out
+by_null : (rules : Rules) (target : Json) → ResolvesTarget rules target [] outcome.Null → (asked : List Call) (out : Outcome) → ResolvesTarget rules a_null asked out → ResolvesTarget rules target asked out
 by_null rules target is asked out null_target = is
 
-by_invalid : (rules : Rules) (target : Json) → ResolvesTarget rules target [] out.InvalidTarget → (asked : List Call) (out : Outcome) → ResolvesTarget rules (a_bool false) asked out → ResolvesTarget rules target asked out
+by_invalid : (rules : Rules) (target : Json) → ResolvesTarget rules target [] outcome.InvalidTarget → (asked : List Call) (out : Outcome) → ResolvesTarget rules (a_bool false) asked out → ResolvesTarget rules target asked out
 by_invalid rules target is asked out (bool_target _) = is
 
-no_members_there : (rules : Rules) (asked : List Call) (out : Outcome) → ResolvesMembers rules no_members asked out → (asked ≡ []) × (out ≡ out.Undefined)
+no_members_there : (rules : Rules) (asked : List Call) (out : Outcome) → ResolvesMembers rules no_members asked out → (asked ≡ []) × (out ≡ outcome.Undefined)
 no_members_there rules asked out no_member = (refl, refl)
 
-by_undefined : (rules : Rules) (target : Json) → ResolvesTarget rules target [] out.Undefined → (asked : List Call) (out : Outcome) → ResolvesTarget rules (an_object no_members) asked out → ResolvesTarget rules target asked out
+by_undefined : (rules : Rules) (target : Json) → ResolvesTarget rules target [] outcome.Undefined → (asked : List Call) (out : Outcome) → ResolvesTarget rules (an_object no_members) asked out → ResolvesTarget rules target asked out
 by_undefined rules target is asked out (index_key _ e) = absurd (true≢false (sym e))
 by_undefined rules target is asked out (object_target _ _ _ e r) =
     let none = no_members_there rules asked out r in
-    subst (λ o. ResolvesTarget rules target asked o) (sym none.1) (subst (λ a. ResolvesTarget rules target a out.Undefined) (sym none.0) is)
+    subst (λ o. ResolvesTarget rules target asked o) (sym none.1) (subst (λ a. ResolvesTarget rules target a outcome.Undefined) (sym none.0) is)
 
 null_defined : (rules : Rules) (asked : List Call) (out : Outcome) → ResolvesTarget rules a_null asked out → is_undefined out ≡ false
 null_defined rules asked out null_target = refl
@@ -55,11 +56,11 @@ null_defined rules asked out null_target = refl
 invalid_defined : (rules : Rules) (asked : List Call) (out : Outcome) → ResolvesTarget rules (a_bool false) asked out → is_undefined out ≡ false
 invalid_defined rules asked out (bool_target _) = refl
 
-undefined_target : (rules : Rules) → ResolvesTarget rules (an_object no_members) [] out.Undefined
-undefined_target rules = object_target no_members [] out.Undefined refl no_member
+undefined_target : (rules : Rules) → ResolvesTarget rules (an_object no_members) [] outcome.Undefined
+undefined_target rules = object_target no_members [] outcome.Undefined refl no_member
 
 pub null_left : (conditions : List (List ℕ)) (imports : Bool) (target : Json)
-    → ((star : Option (List ℕ)) → ResolvesTarget (judged_by conditions star imports) target [] out.Null)
+    → ((star : Option (List ℕ)) → ResolvesTarget (judged_by conditions star imports) target [] outcome.Null)
     → IsReduced conditions imports target Null
 null_left conditions imports target is = record {
   comes = λ star. by_null (judged_by conditions star imports) target (is star);
@@ -67,7 +68,7 @@ null_left conditions imports target is = record {
 }
 
 pub invalid_left : (conditions : List (List ℕ)) (imports : Bool) (target : Json)
-    → ((star : Option (List ℕ)) → ResolvesTarget (judged_by conditions star imports) target [] out.InvalidTarget)
+    → ((star : Option (List ℕ)) → ResolvesTarget (judged_by conditions star imports) target [] outcome.InvalidTarget)
     → IsReduced conditions imports target InvalidTarget
 invalid_left conditions imports target is = record {
   comes = λ star. by_invalid (judged_by conditions star imports) target (is star);
@@ -75,7 +76,7 @@ invalid_left conditions imports target is = record {
 }
 
 pub undefined_left : (conditions : List (List ℕ)) (imports : Bool) (target : Json)
-    → ((star : Option (List ℕ)) → ResolvesTarget (judged_by conditions star imports) target [] out.Undefined)
+    → ((star : Option (List ℕ)) → ResolvesTarget (judged_by conditions star imports) target [] outcome.Undefined)
     → IsReduced conditions imports target Undefined
 undefined_left conditions imports target is = record {
   comes = λ star. by_undefined (judged_by conditions star imports) target (is star);
@@ -106,27 +107,29 @@ text_left conditions imports text value e = record {
   defined = λ some star asked out r. text_defined (judged_by conditions star imports) text asked out (subst (λ j. ResolvesTarget (judged_by conditions star imports) j asked out) e r);
 }
 
-leaving : (rules : Rules) (text : List ℕ) → begins text (codes "./") ≡ true → leaves_package text ≡ true → ResolvesText rules text [] out.InvalidTarget
+leaving : (rules : Rules) (text : List ℕ) → begins text (codes "./") ≡ true → leaves_package text ≡ true → ResolvesText rules text [] outcome.InvalidTarget
 leaving rules text e l = subst (λ o. ResolvesText rules text [] o) (cond-true (leaves_package text) _ _ l) (own_place e)
 
 pub leaving_left : (conditions : List (List ℕ)) (imports : Bool) (text : List ℕ) → begins text (codes "./") ≡ true
     → leaves_package text ≡ true → IsReduced conditions imports (a_text text) InvalidTarget
 leaving_left conditions imports text e l =
     invalid_left conditions imports (a_text text)
-    (λ star. text_target text [] out.InvalidTarget (leaving (judged_by conditions star imports) text e l))
+    (λ star. text_target text [] outcome.InvalidTarget (leaving (judged_by conditions star imports) text e l))
 
 pub no_target_left : (conditions : List (List ℕ)) (imports : Bool) (text : List ℕ) → begins text (codes "./") ≡ false
     → names_package imports text ≡ false → IsReduced conditions imports (a_text text) InvalidTarget
 no_target_left conditions imports text e n =
-    invalid_left conditions imports (a_text text) (λ star. text_target text [] out.InvalidTarget (no_target e n))
+    invalid_left conditions imports (a_text text) (λ star. text_target text [] outcome.InvalidTarget (no_target e n))
 
 -- ---- an object with a name that is an array index
 
-by_config : (rules : Rules) (target : Json) → ResolvesTarget rules target [] out.InvalidConfig → (asked : List Call) (out : Outcome) → ResolvesTarget rules (an_object (a_member (codes "0") a_null no_members)) asked out → ResolvesTarget rules target asked out
+by_config : (rules : Rules) (target : Json) → ResolvesTarget rules target [] outcome.InvalidConfig → (asked : List Call) (out : Outcome) → ResolvesTarget rules (an_object (a_member (codes "0") a_null no_members)) asked out → ResolvesTarget rules target asked out
+unfolding is_array_index
 by_config rules target is asked out (index_key _ e) = is
 by_config rules target is asked out (object_target _ _ _ e r) = absurd (true≢false e)
 
 config_defined : (rules : Rules) (asked : List Call) (out : Outcome) → ResolvesTarget rules (an_object (a_member (codes "0") a_null no_members)) asked out → is_undefined out ≡ false
+unfolding is_array_index
 config_defined rules asked out (index_key _ e) = refl
 config_defined rules asked out (object_target _ _ _ e r) = absurd (true≢false e)
 
@@ -143,20 +146,20 @@ config_left conditions imports members made e is = record {
 
 -- ---- items
 
-behind_nothing : (out : Outcome) → last_of out.Undefined out ≡ out
-behind_nothing out.Undefined = refl
-behind_nothing out.Null = refl
-behind_nothing (out.Place text) = refl
-behind_nothing out.Bare = refl
-behind_nothing out.Stopped = refl
-behind_nothing out.InvalidTarget = refl
-behind_nothing out.InvalidSpecifier = refl
-behind_nothing out.InvalidConfig = refl
+behind_nothing : (out : Outcome) → last_of outcome.Undefined out ≡ out
+behind_nothing outcome.Undefined = refl
+behind_nothing outcome.Null = refl
+behind_nothing (outcome.Place text) = refl
+behind_nothing outcome.Bare = refl
+behind_nothing outcome.Stopped = refl
+behind_nothing outcome.InvalidTarget = refl
+behind_nothing outcome.InvalidSpecifier = refl
+behind_nothing outcome.InvalidConfig = refl
 
 -- an item that comes to nothing
-skipped : (rules : Rules) (item : Json) (more : Items) → ResolvesTarget rules item [] out.Undefined → (asked : List Call) (out : Outcome) → ResolvesItems rules more asked out → ResolvesItems rules (an_item item more) asked out
+skipped : (rules : Rules) (item : Json) (more : Items) → ResolvesTarget rules item [] outcome.Undefined → (asked : List Call) (out : Outcome) → ResolvesItems rules more asked out → ResolvesItems rules (an_item item more) asked out
 skipped rules item more is asked out r =
-    subst (λ o. ResolvesItems rules (an_item item more) asked o) (behind_nothing out) (passed item more [] asked out.Undefined out is refl r)
+    subst (λ o. ResolvesItems rules (an_item item more) asked o) (behind_nothing out) (passed item more [] asked outcome.Undefined out is refl r)
 
 -- an item behind which the list goes on, where what comes behind it isn't undefined
 covered : (rules : Rules) (item : Json) (more : Items) (first : Outcome) → is_passed first ≡ true → ResolvesTarget rules item [] first → (asked : List Call) (out : Outcome) → is_undefined out ≡ false → ResolvesItems rules more asked out → ResolvesItems rules (an_item item more) asked out
@@ -190,15 +193,15 @@ pub undefined_before : (conditions : List (List ℕ)) (imports : Bool) (item : J
 undefined_before conditions imports item more left is rest = record {
   comes = λ star asked out r.
       skipped (judged_by conditions star imports) item more
-      (is.comes star [] out.Undefined (undefined_target (judged_by conditions star imports))) asked out
+      (is.comes star [] outcome.Undefined (undefined_target (judged_by conditions star imports))) asked out
       (rest.comes star asked out r);
   defined = rest.defined;
   none = rest.none;
 }
 
 passes : (rules : Rules) (item : Json) (made : Reduced) → IsPassed made → ((asked : List Call) (out : Outcome) → ResolvesTarget rules (shown made) asked out → ResolvesTarget rules item asked out) → (first : Outcome) × (is_passed first ≡ true) × ResolvesTarget rules item [] first
-passes rules item made (inl e) comes = (out.Null, refl, comes [] out.Null (subst (λ m. ResolvesTarget rules (shown m) [] out.Null) (sym e) null_target))
-passes rules item made (inr e) comes = (out.InvalidTarget, refl, comes [] out.InvalidTarget (subst (λ m. ResolvesTarget rules (shown m) [] out.InvalidTarget) (sym e) (bool_target false)))
+passes rules item made (inl e) comes = (outcome.Null, refl, comes [] outcome.Null (subst (λ m. ResolvesTarget rules (shown m) [] outcome.Null) (sym e) null_target))
+passes rules item made (inr e) comes = (outcome.InvalidTarget, refl, comes [] outcome.InvalidTarget (subst (λ m. ResolvesTarget rules (shown m) [] outcome.InvalidTarget) (sym e) (bool_target false)))
 
 pub passed_before : (conditions : List (List ℕ)) (imports : Bool) (item : Json) (more : Items) (left : Left) (made : Reduced)
     → IsPassed made → left.first ≢ Undefined → IsReduced conditions imports item made
@@ -232,7 +235,7 @@ put_before conditions imports item more left after made some e there is rest = r
 one_item : (rules : Rules) (made : Json) (asked : List Call) (out : Outcome) → ResolvesTarget rules made asked out → ResolvesItems rules (an_item made no_items) asked out
 one_item rules made asked out r =
     elim (cases_Bool (is_passed out)) [
-      | inl p ↦ subst (λ a. ResolvesItems rules (an_item made no_items) a out) (append-nil asked) (passed made no_items asked [] out out.Undefined r p no_item)
+      | inl p ↦ subst (λ a. ResolvesItems rules (an_item made no_items) a out) (append-nil asked) (passed made no_items asked [] out outcome.Undefined r p no_item)
       | inr d ↦ decided made no_items asked out r d
     ]
 
@@ -256,9 +259,9 @@ pub none_whole : (conditions : List (List ℕ)) (imports : Bool) (item : Json) (
     → IsReduced conditions imports (a_list (an_item item more)) Undefined
 none_whole conditions imports item more left e rest =
     undefined_left conditions imports (a_list (an_item item more))
-    (λ star. list_target item more [] out.Undefined
-    (rest.comes star [] out.Undefined
-    (subst (λ vs. ResolvesItems (judged_by conditions star imports) (items_from vs) [] out.Undefined) (sym (ap (λ m. left_in m left.back.items) e)) no_item)))
+    (λ star. list_target item more [] outcome.Undefined
+    (rest.comes star [] outcome.Undefined
+    (subst (λ vs. ResolvesItems (judged_by conditions star imports) (items_from vs) [] outcome.Undefined) (sym (ap (λ m. left_in m left.back.items) e)) no_item)))
 
 pub one_whole : (conditions : List (List ℕ)) (imports : Bool) (item : Json) (more : Items) (left : Left)
     → left.first ≢ Undefined → left.back.items ≡ [] → LeavesItems conditions imports (an_item item more) left
@@ -310,7 +313,7 @@ tried_left conditions imports key value made e is = record {
   tried = λ some. (e, is);
   passed = λ f more star asked out r.
       undefined key value more [] asked out e
-      (is.comes star [] out.Undefined (subst (λ m. ResolvesTarget (judged_by conditions star imports) (shown m) [] out.Undefined) (sym f) (undefined_target (judged_by conditions star imports))))
+      (is.comes star [] outcome.Undefined (subst (λ m. ResolvesTarget (judged_by conditions star imports) (shown m) [] outcome.Undefined) (sym f) (undefined_target (judged_by conditions star imports))))
       r;
 }
 
@@ -333,8 +336,8 @@ pub members_end : (conditions : List (List ℕ)) (imports : Bool) (all rest : Me
     → rest ≡ no_members → IsReduced conditions imports (an_object all) Undefined
 members_end conditions imports all rest e follows none =
     undefined_left conditions imports (an_object all)
-    (λ star. object_target all [] out.Undefined e
-    (follows star [] out.Undefined (subst (λ ms. ResolvesMembers (judged_by conditions star imports) ms [] out.Undefined) (sym none) no_member)))
+    (λ star. object_target all [] outcome.Undefined e
+    (follows star [] outcome.Undefined (subst (λ ms. ResolvesMembers (judged_by conditions star imports) ms [] outcome.Undefined) (sym none) no_member)))
 
 pub member_passed : (conditions : List (List ℕ)) (imports : Bool) (all rest more : Members) (key : List ℕ) (value : Json) (made : Reduced)
     → Follows (λ rules. ResolvesMembers rules rest) (λ rules. ResolvesMembers rules all) conditions imports

@@ -3,23 +3,26 @@ use Rattle.std.proofs.lemmas.Bool.{true≢false, eqb-true, eqb-false}
 use Rattle.std.proofs.lemmas.List.{drop_all}
 use Rattle.ordered_json.specs.Lists.{values_of, pairs_of}
 use Rattle.ordered_json.specs.Shown.{members_of, json_of}
-use Rattle.condition_match.proofs.Sizes.{item_size, member_size, list_size}
+use Rattle.ordered_json.proofs.ShownLemmas.{json_of_object}
+use Rattle.condition_match.proofs.Sizes.{size, item_size, member_size, list_size}
 use Rattle.condition_match.proofs.ReduceLemmas.{value_null, value_bool, value_number, value_text, value_empty, value_list, value_config, value_object, none_gone, item_gone, all_gone, untried_left, tried_value, member_whole, members_end, member_passed}
 use Rattle.condition_match.proofs.reducing.+reduce.Goals as goal
 
 pub reduced_value-reduced_items-requires : goal.reduced_value-reduced_items-requires
-reduced_value-reduced_items-requires t c κs within = ?
+reduced_value-reduced_items-requires t c =
+    (omega (arith, list_size c.args.target.now c.in-List.items c.in-List.is, c.decreases), eqb-false _ 0 (sym c.is_empty.ensures ∙ c.if-is_empty.false))
 
 pub reduced_value-reduced_members-requires : goal.reduced_value-reduced_members-requires
-reduced_value-reduced_members-requires t c κs within = ?
+reduced_value-reduced_members-requires t c =
+    (omega (arith, ap size (ap json_of c.in-Object.is ∙ json_of_object c.in-Object.members), c.decreases), sym c.has_index_key.ensures ∙ c.if-has_index_key.false)
 
 pub reduced_items-reduced_value-requires : goal.reduced_items-reduced_value-requires
-reduced_items-reduced_value-requires t c κs within =
-    (omega (arith, item_size (values_of c.args.items.now) c.item_at-item.args.index c.item_at-item.result.now _ c.item_at-item.ensures, c.decreases), search rules)
+reduced_items-reduced_value-requires t c =
+    omega (arith, item_size (values_of c.args.items.now) _ c.item_at-item.result.now _ c.item_at-item.ensures, c.decreases)
 
 pub reduced_members-reduced_member-requires : goal.reduced_members-reduced_member-requires
-reduced_members-reduced_member-requires t c κs within =
-    (omega (arith, member_size (pairs_of c.args.members.now) c.loop-index.index c.member_at.result.0.now c.member_at.result.1.now _ c.member_at.ensures, c.decreases), search rules)
+reduced_members-reduced_member-requires t c =
+    omega (arith, member_size (pairs_of c.args.members.now) c.loop-index.index c.member_at.result.0.now c.member_at.result.1.now _ c.member_at.ensures, c.decreases)
 
 pub reduced_value-returns-in-Null : goal.reduced_value-returns-in-Null
 reduced_value-returns-in-Null t c = value_null c.args.conditions.now c.args.imports c.args.target.now c.in-Null.is
@@ -56,14 +59,22 @@ reduced_value-returns-else-has_index_key t c =
 pub reduced_items-returns : goal.reduced_items-returns
 reduced_items-returns t c =
     all_gone c.args.conditions.now c.args.imports (values_of c.args.items.now) c.loop-index.index c.loop-index.left c.whole.result
-    c.requires ? c.loop-index.invariant.leaves c.whole.ensures
+    c.requires (omega (arith, c.loop-index-test.false)) c.loop-index.invariant.leaves c.whole.ensures
+
+pub reduced_items-loop-index-init : goal.reduced_items-loop-index-init
+reduced_items-loop-index-init t c = record {
+  within = omega (arith, c.len-index.ensures);
+  leaves =
+      none_gone c.args.conditions.now c.args.imports (values_of c.args.items.now) c.len-index.result _ c.len-index.ensures refl
+      c.new.ensures.items;
+}
 
 pub reduced_items-loop-index-preserved : goal.reduced_items-loop-index-preserved
 reduced_items-loop-index-preserved t c = record {
-  within = ?;
+  within = omega (arith, c.loop-index.invariant.within);
   leaves =
       item_gone c.args.conditions.now c.args.imports (values_of c.args.items.now) c.loop-index.index _ c.item_at-item.result.now
-      c.loop-index.left c.in_ok-left.left c.in_ok-made.made ? c.item_at-item.ensures c.in_ok-left.ensures c.in_ok-made.ensures
+      c.loop-index.left c.in_ok-left.left c.in_ok-made.made (omega (arith, c.loop-index-test.true)) c.item_at-item.ensures c.in_ok-left.ensures c.in_ok-made.ensures
       c.loop-index.invariant.leaves;
 }
 

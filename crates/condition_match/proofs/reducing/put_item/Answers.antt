@@ -6,8 +6,8 @@ use Rattle.condition_match.proofs.reducing.put_item.Goals as goal
 pub put_passed-requires : goal.put_passed-requires
 put_passed-requires c = inl refl
 
-pub put_passed-in-InvalidTarget-requires : goal.put_passed-in-InvalidTarget-requires
-put_passed-in-InvalidTarget-requires c = inr refl
+pub put_passed-requires-in-InvalidTarget : goal.put_passed-requires-in-InvalidTarget
+put_passed-requires-in-InvalidTarget c = inr refl
 
 pub put_front-requires : goal.put_front-requires
 put_front-requires c = λ e. cc
