@@ -102,7 +102,7 @@ impl Conditions {
     pub fn is_same(&self, other: &Conditions) -> bool
         ensures { IsTrue result → self.now ≡ other.now }
     {
-        self.names.as_slice() == other.names.as_slice()
+        are_same(&self.names, &other.names)
     }
 
     /// Whether this name is among them.
@@ -121,6 +121,12 @@ fn copy_of(alloc: Global, names: &[Text]) -> Result<Listed<Text>, Memory>
         copy.push(name.copy(alloc)?)?;
     }
     Ok(copy)
+}
+
+fn are_same(names: &Listed<Text>, other: &Listed<Text>) -> bool
+    ensures { IsTrue result → names.now ≡ other.now }
+{
+    names.as_slice() == other.as_slice()
 }
 
 fn holds(names: &Listed<Text>, name: &str) -> bool

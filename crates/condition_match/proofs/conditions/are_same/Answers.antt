@@ -1,6 +1,6 @@
 use Rattle.std.proofs.Common.{sym, ◌∙◌}
 use Rattle.std.proofs.lemmas.Slice.Eq.{slice_eq-Decides, bytes_eq-Decides}
-use Rattle.condition_match.proofs.conditions.Conditions.is_same.Goals as goal
+use Rattle.condition_match.proofs.conditions.are_same.Goals as goal
 
 pub returns : goal.returns
 returns c = λ is.
