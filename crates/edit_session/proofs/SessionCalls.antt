@@ -2,7 +2,8 @@
 use Rattle.std.proofs.Common.{◌≡◌, ◌++◌, [], ℕ, List, Option, Some, None, Result, Ok, Err, IfSome, refl, sym, ap, ◌∙◌, subst, arith}
 use Rattle.std.specs.FinMap.{get}
 use Rattle.std.specs.HashMap as map
-use Rattle.std.specs.Prelude.{◌==◌, ◌∷◌, All, true, is_some, bytes_eq, length, ⊤}
+use Rattle.std.specs.Prelude.{◌==◌, ◌∷◌, All, true, false, is_some, bytes_eq, length, ⊤}
+use Rattle.std.proofs.lemmas.Bool.{true≢false}
 use Rattle.std.proofs.lemmas.Bool.Decides.{Decides-eqb}
 use Rattle.std.proofs.lemmas.List.{append_cancel_left}
 use Rattle.std.proofs.lemmas.List.Elements.{All-weaker}
@@ -56,6 +57,18 @@ Done = Result (Unit {0}) EditStop
 
 abbrev all_done : Done
 all_done = Ok tt
+
+-- ---- what is pending
+
+pub has_changes : (edit : List Change) → (length edit == 0) ≡ false → edit ≡ [] → ⊥
+has_changes [] none e = absurd (true≢false none)
+has_changes (change ∷ edit) none e = absurd (cc)
+
+none_same : (pending : Option Prepared) → pending ≡ None → pending ≡ Some Same → ⊥
+none_same pending none same = (let no : None ≡ Some Same = sym none ∙ same in absurd (cc))
+
+changed_same : (made : Pending) (pending : Option Prepared) → pending ≡ Some (Changed made) → pending ≡ Some Same → ⊥
+changed_same made pending changed same = (let no : Some (Changed made) ≡ Some Same = sym changed ∙ same in let two : Changed made ≡ Same = cc in absurd (cc))
 
 -- ---- an edit is prepared
 
@@ -164,9 +177,9 @@ module _ (before after : FolderState) (old : Session) (mid : Parts) (edit : List
         subst (λ k. LooksNew before old.known after k fails unfinished Asks) (sym known)
         (looks_new mid.known failed some fails unfinished back on weaker looks)
 
-    pub not_prepared : (why : EditStop) → new.pending ≡ None → MakesNext before (parts_of old) edit (Err why) after mid
+    pub not_prepared : (edit ≡ [] → ⊥) → (why : EditStop) → new.pending ≡ None → MakesNext before (parts_of old) edit (Err why) after mid
         → Prepares before old edit (Err why) after new
-    not_prepared why none is = record {
+    not_prepared filled why none is = record {
       config = config ∙ is.same.config;
       generated = generated ∙ is.same.generated;
       looks = looks_so (next_stops why ≡ Err ReadFault) (next_stops why ≡ Err Memory) (stops why ≡ Err ReadFault)
@@ -179,11 +192,12 @@ module _ (before after : FolderState) (old : Session) (mid : Parts) (edit : List
       stays = stays_so (next_stops why) is new known config generated;
       pending = tt;
       nothing_pending = none;
+      same = ((λ e. absurd (filled e)), λ e. absurd (none_same new.pending none e));
     }
 
-    pub prepared : (pending : Pending) → new.pending ≡ Some (Changed pending) → MakesNext before (parts_of old) edit (Ok pending) after mid
+    pub prepared : (edit ≡ [] → ⊥) → (pending : Pending) → new.pending ≡ Some (Changed pending) → MakesNext before (parts_of old) edit (Ok pending) after mid
         → Prepares before old edit (Ok tt) after new
-    prepared pending there is = record {
+    prepared filled pending there is = record {
       config = config ∙ is.same.config;
       generated = generated ∙ is.same.generated;
       looks = looks_so (next_leads pending ≡ Err ReadFault) (next_leads pending ≡ Err Memory)
@@ -217,6 +231,7 @@ module _ (before after : FolderState) (old : Session) (mid : Parts) (edit : List
       stays = stays_so (next_leads pending) is new known config generated;
       pending = ap is_some there;
       nothing_pending = tt;
+      same = ((λ e. absurd (filled e)), λ e. absurd (changed_same pending new.pending there e));
     }
 
 -- ---- an edit without changes
@@ -260,6 +275,7 @@ module _ (before : FolderState) (old new : Session) (known : new.known ≡ old.k
         before.holds (λ tree e. same_session tree);
     pending = ap is_some there;
     nothing_pending = tt;
+    same = ((λ e. there), λ e. refl);
   }
 
   pub prepared_empty : (edit : List Change) → (length edit == 0) ≡ true → new.pending ≡ Some Same

@@ -7,7 +7,7 @@
 --     Accepts tree state edit session the edit is accepted, and the state that it leads to is pending
 --     Prepares before old edit result after new       an edit that is prepared
 --     Commits old new                 what is pending becomes the state
-use Rattle.std.specs.Prelude.{◌≡◌, ⊤, ℕ, List, true, Some, None, Result, Err, IfOk, IfErr, IfSome, OnOk, OnErr}
+use Rattle.std.specs.Prelude.{◌≡◌, ◌↔◌, ⊤, [], ℕ, List, true, Some, None, Result, Err, IfOk, IfErr, IfSome, OnOk, OnErr}
 use Rattle.std.specs.Prelude.{is_some, Ok}
 use Rattle.tree_spec.specs.States.{FolderState, OnlyLooks}
 use Rattle.tree_spec.specs.Trees.{Tree}
@@ -95,7 +95,8 @@ pub record Accepts (tree : Tree) (state : SessionState) (edit : List Change) (se
   pub is_pending : IsPendingOf tree session next
   pub accepted : IsAccepted state edit next line
 
--- own: config, laid looks, map and counts are as before, whatever comes of it
+-- own: config, laid looks, map and counts are as before, whatever comes of it. An edit without changes is prepared, and
+-- for it alone nothing is generated
 pub record Prepares (before : FolderState) (old : Session) (edit : List Change) (result : Result (Unit {0}) EditStop)
     (after : FolderState) (new : Session) : Type 0 where
   pub config : new.config ≡ old.config
@@ -119,6 +120,7 @@ pub record Prepares (before : FolderState) (old : Session) (edit : List Change) 
       IfSome before.holds (λ tree. (state : SessionState) → IsSessionOf tree old state → IsSessionOf tree new state)
   pub pending : OnOk result (is_some new.pending ≡ true)
   pub nothing_pending : OnErr result (new.pending ≡ None)
+  pub same : (edit ≡ []) ↔ (new.pending ≡ Some Same)
 
 -- ---- a step
 

@@ -36,6 +36,8 @@ use Rattle.session_spec.specs.Openings.{refresh_words, CanOpen}
 use Rattle.session_spec.specs.SessionLooks.{IsSessionLook, AsksFresh, AsksWithin}
 use Rattle.session_spec.specs.SessionRuns.{StatesServe, NoFault, RepliesTo, RepliesToAll, SessionComesTo, SessionSays, SessionStops, SessionEnds}
 use Rattle.session_spec.proofs.SessionSpending.{none_spent}
+use Rattle.session_spec.proofs.TakenFronts.{no_take}
+use Rattle.session_spec.specs.TakenInput.{NoTake}
 use Rattle.generator_core.specs.Configuring.{StopsConfig, StopsConfig as stops_config}
 use Rattle.generator_core.specs.Writing.{TellsStop, TellsWords}
 use Rattle.generator_core.proofs.Endings.{some_same, still}
@@ -105,7 +107,7 @@ ends_before before middle after source later out gone result spent spent_after l
       takes = is.takes;
       few = is.few;
       awaited = is.awaited;
-      opened = of_before before middle after looked.tree quiet source later is.taken (λ tree. (is.taken ≡ []) ⊎ CanOpen tree) is.opened;
+      opened = of_before before middle after looked.tree quiet source later is.taken (λ tree. NoTake source is.taken later ⊎ CanOpen tree) is.opened;
       steps = is.steps;
       asked = asks_both is.taken middle.holds before.holds looked.tree middle after before.asked own held.fresh;
       stops = stops_before before middle after looked.tree quiet source later is.taken out gone result is.stops;
@@ -133,8 +135,8 @@ module _ (before after : FolderState) (source : SourceState) (out gone : SinkSta
     taken = [];
     takes = takes_none source;
     few = omega arith;
-    awaited = none_awaited;
-    opened = if_all before.holds (λ tree. inl refl);
+    awaited = none_awaited source;
+    opened = if_all before.holds (λ tree. inl (no_take source));
     asked = if_some before.asked (λ old is. record { first = is.first; is_first = is.is_own; then = nothing_fresh before.holds after (old ++ is.first) is.asked }) own;
     steps = none_spent [] spent;
     stops = stops;
@@ -142,12 +144,12 @@ module _ (before after : FolderState) (source : SourceState) (out gone : SinkSta
   }
 
   memory_at_once : after.look_faults ≡ before.look_faults → Ends memory_status memory_line out gone result → StopsAtOnce
-  memory_at_once quiet told = runs.said memory_status memory_line (runs.memory [] none_front (quiet, refl) nothing_said refl refl) told
+  memory_at_once quiet told = runs.said memory_status memory_line (runs.memory [] (none_front source) (quiet, refl) nothing_said refl refl) told
 
   refused_at_once : (why : Refusal) → CanRefuse refresh_words why → after.look_faults ≡ before.look_faults → IfSome before.holds (λ tree. RefusesRun refresh_words tree why) → TellsRefusal why out gone result → StopsAtOnce
   refused_at_once why can quiet refuses (inl told) =
       runs.said (status_of why) (line_of why)
-      (runs.outcome (inr (refl, record { why = why; can = can; ends = refl; says = refl })) (quiet, refl) (if_some before.holds (λ tree because. runs.refused why because) refuses)
+      (runs.outcome (inr (no_take source, record { why = why; can = can; ends = refl; says = refl })) (quiet, refl) (if_some before.holds (λ tree because. runs.refused why because) refuses)
       (if_some before.holds (λ tree because. if_all source.left (λ input. runs.refused why because)) refuses)) told
   refused_at_once why can quiet refuses (inr told) = memory_at_once quiet told
 
@@ -160,7 +162,7 @@ module _ (before after : FolderState) (source : SourceState) (out gone : SinkSta
       (refused_at_once (Configured fault) (can_refuse.by_project fault can) (looks.quiet (λ e. e)) (if_some before.holds (λ tree because. refuses_run.by_project fault because) refuses) (subst (λ (s : Stop). TellsStop s out gone result) same told))
   stopped_ends stop (stops_config.read_fault same looks) own told later =
       unopened_ends looks later own
-      (runs.said read_fault_status read_fault_line (runs.look_fault [] none_front (looks.cause same) refl nothing_said refl refl) (subst (λ (s : Stop). TellsStop s out gone result) same told))
+      (runs.said read_fault_status read_fault_line (runs.look_fault [] (none_front source) (looks.cause same) refl nothing_said refl refl) (subst (λ (s : Stop). TellsStop s out gone result) same told))
   stopped_ends stop (stops_config.memory same looks) own told later =
       unopened_ends looks later own (memory_at_once (looks.quiet (λ e. e)) (subst (λ (s : Stop). TellsStop s out gone result) same told))
 

@@ -409,7 +409,7 @@ as_limit Session = refl
 as_limit Map = refl
 as_limit Choices = refl
 
-as_failing : {X : Type 0} (fault : LookupFault)
+pub as_failing : {X : Type 0} (fault : LookupFault)
     → by_fault (failed X never) (failed X never) fault ≡ fails (failing_of fault)
 as_failing ReadFault = refl
 as_failing (Limit which) = as_limit which

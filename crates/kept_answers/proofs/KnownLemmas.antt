@@ -1,6 +1,7 @@
 -- What is known to stand there, as looks saw it.
 --     as_seen              a look that was seen sees what stands there
 --     all_seen             what is known stands there, whatever looks tell
+--     within_small, never_large      the limit of a file
 use Rattle.std.proofs.Common.{◌≡◌, ℕ, nat_lt, List, length, Option, Some, None, refl, ap, ◌∙◌}
 use Rattle.std.specs.Prelude.{All}
 use Rattle.std.specs.FinMap.{get}
@@ -29,12 +30,12 @@ as_seen (seen.File bytes) = refl
 
 -- ---- what is known stands there
 
-within_small : (found : Option Entry) → IsSmall found → within_limit (look_for found) ≡ look_for found
+pub within_small : (found : Option Entry) → IsSmall found → within_limit (look_for found) ≡ look_for found
 within_small None small = refl
 within_small (Some Directory) small = refl
 within_small (Some (Stored bytes)) small = cond-false _ _ _ small
 
-never_large : (found : Option Entry) → TooLarge ≡ look_for found → ⊥
+pub never_large : (found : Option Entry) → TooLarge ≡ look_for found → ⊥
 never_large None e = absurd (cc)
 never_large (Some Directory) e = absurd (cc)
 never_large (Some (Stored bytes)) e = absurd (cc)

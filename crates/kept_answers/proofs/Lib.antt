@@ -2,6 +2,9 @@ pub mod KnownLemmas
 mod ReachedAgain
 pub mod Certifying
 pub mod LookingAgain
+pub mod FreshSteps
+pub mod SharedFootprints
+pub mod SeenNow
 pub mod TableLemmas
 pub mod ModuleLemmas
 pub mod RequestLemmas

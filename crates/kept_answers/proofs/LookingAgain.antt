@@ -105,8 +105,8 @@ module _ (before now later : State) (whole rest others : List LookSeen) (look : 
 
   pub again_differs : (seen : Seen) → Answered now (look_at path) (given (entry_of seen)) later
       → known_at later.known path ≡ Some (look_seen seen) → (look_seen seen ≡ look_for look.found → ⊥)
-      → (to : LooksTo before whole (given tt) later) × IsOther later.known to.next
-  again_differs seen a here other = (
+      → IsSmall look.found → (to : LooksTo before whole (given tt) later) × IsOther later.known to.next
+  again_differs seen a here other small = (
     record {
       same = again.same;
       next = look;
@@ -116,10 +116,10 @@ module _ (before now later : State) (whole rest others : List LookSeen) (look : 
       answered = (left_at [] (entry_of seen) a).completes (given tt) later (now_given later tt);
     },
     record {
-      known_other = λ e.
-          let same : Some (look_seen seen) ≡ Some (look_for look.found) = sym here ∙ (ap (known_at later.known) at ∙ e) in
-          let is : look_seen seen ≡ look_for look.found = cc in
-          other is;
+      seen = look_seen seen;
+      known_so = ap (known_at later.known) (sym at) ∙ here;
+      other = other;
+      small = small;
     },
   )
 

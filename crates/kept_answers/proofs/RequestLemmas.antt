@@ -3,7 +3,7 @@
 --     put_request          to keep one more leaves the table right
 --     copied               a copy is as right
 --     right_as, node_as, kept_as      the same under other names
-use Rattle.std.proofs.Common.{◌≡◌, ℕ, List, Option, Some, Result, Ok, IfSome, subst, sym}
+use Rattle.std.proofs.Common.{◌≡◌, ℕ, List, Option, Some, Result, Ok, IfSome, subst, sym, ap, ◌∙◌}
 use Rattle.std.specs.Prelude.{if◌then◌else◌, OnOk, OnErr}
 use Rattle.tree_spec.proofs.ToldStates.{if_some}
 use Rattle.tree_spec.specs.Trees.{Tree}
@@ -11,7 +11,7 @@ use Rattle.node_resolve.specs.Places.{module_of}
 use Rattle.node_resolve.specs.declared.found.Found.{Found}
 use Rattle.node_spec.specs.EsmResolve.{node}
 use Rattle.node_spec.specs.NodeAnswers.{Module, Refusal}
-use Rattle.kept_spec.specs.Certificates.{LookSeen}
+use Rattle.kept_spec.specs.Certificates.{LookSeen, paths_of}
 use Rattle.kept_answers.specs.Entries.{Request, is_request}
 use Rattle.kept_answers.specs.KnownLooks.{IsKept}
 use Rattle.kept_answers.specs.Tables.{requests_at, IsRequestOf, AreRequests}
@@ -43,6 +43,7 @@ copied names request shown kept copy same found looks of =
           (sym looks)
           (subst (λ (f : Found). IsKept (node names request.parent request.specifier) (Ok (module_of f)) kept.looks.value)
           (sym found) of.is);
+      footprint = ap (λ (f : Found). f.footprint) found ∙ (of.footprint ∙ ap paths_of (sym looks));
     })
 
 -- ---- under other names of the same conditions, and of the same request

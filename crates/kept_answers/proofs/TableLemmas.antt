@@ -2,10 +2,12 @@
 --     put_right            one answer more, or none
 --     one_request          two requests that the test takes for one are one
 --     one_more             one name more
-use Rattle.std.proofs.Common.{◌≡◌, ◌+◌, ℕ, Bool, true, false, List, [], ◌∷◌, ◌++◌, take, Option, Some, Result, Ok, Err, refl, sym, ◌∙◌, subst}
-use Rattle.std.specs.Prelude.{bytes_eq, ◌&&◌, if◌then◌else◌, OnOk, OnErr, slice_get}
-use Rattle.std.proofs.lemmas.List.{take_more}
-use Rattle.std.proofs.lemmas.Option.{slice_get_within, get_or_from_slice_get}
+--     name_differs, same_more      a name that differs, and one that is the same
+use Rattle.std.proofs.Common.{◌≡◌, ◌+◌, ◌<◌, ℕ, length, Bool, true, false, List, [], ◌∷◌, ◌++◌, take, Option, Some, Result, Ok, Err, refl, sym, ap, ◌∙◌, subst}
+use Rattle.std.specs.Prelude.{bytes_eq, ◌&&◌, if◌then◌else◌, OnOk, OnErr, slice_get, unwrap_or}
+use Rattle.std.specs.Bool.{Decides}
+use Rattle.std.proofs.lemmas.List.{take_more, take_more_same}
+use Rattle.std.proofs.lemmas.Option.{slice_get_within, get_or_from_slice_get, unwrap_or-slice_get}
 use Rattle.std.proofs.lemmas.Slice.Eq.{bytes_eq-Decides}
 use Rattle.kept_answers.specs.Entries.{Request, is_request}
 
@@ -60,3 +62,20 @@ one_more names all next i copy name so_far at same put =
     let step = take_more all i name (slice_get_within all i name at) in
     let here = get_or_from_slice_get all i name name at in
     cc
+
+-- ---- two lists of names
+
+pub name_differs : (names others : List (List ℕ)) (i : ℕ) (same : Bool)
+    → Decides same (slice_get names i ≡ slice_get others i) → same ≡ false → Decides false (names ≡ others)
+name_differs names others i same decides otherwise = (
+  (λ e. absurd (cc)),
+  (λ e. let yes = decides.1 (ap (λ ns. slice_get ns i) e) in cc),
+)
+
+pub same_more : (names others : List (List ℕ)) (i : ℕ) (same : Bool) → i < length names → i < length others
+    → take i names ≡ take i others → Decides same (slice_get names i ≡ slice_get others i) → same ≡ true
+    → take (i + 1) names ≡ take (i + 1) others
+same_more names others i same short other so_far decides e =
+    take_more_same names others i [] short other so_far
+    (sym (unwrap_or-slice_get names i [])
+    ∙ (ap (λ o. unwrap_or o []) (decides.0 e) ∙ unwrap_or-slice_get others i []))

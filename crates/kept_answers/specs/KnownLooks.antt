@@ -13,6 +13,7 @@ use Rattle.std.specs.Prelude.{◌≡◌, ◌≢◌, ◌++◌, [], ◌∷◌, ℕ
 use Rattle.tree_spec.specs.LookAskings.{LookAsking, look_at_each}
 use Rattle.tree_spec.specs.LookLimits.{look_limits, size_at, begun}
 use Rattle.tree_spec.specs.declared.Entry.{Entry}
+use Rattle.tree_spec.specs.declared.Look.{Look}
 use Rattle.package_lookup.specs.Answered.{State, state, Answered}
 use Rattle.package_lookup.specs.LaidTrees.{look_for}
 use Rattle.package_lookup.specs.Looked.{known_at}
@@ -54,7 +55,10 @@ pub record LooksTo (before : State) (looks : List LookSeen) (response : Response
   pub answered : Answered (afresh before) (look_at_each (paths_of same ++ next.path ∷ [])) response after
 
 pub record IsOther (known : Known) (look : LookSeen) : Type 0 where
-  pub known_other : known_at known look.path ≢ Some (look_for look.found)
+  pub seen : Look
+  pub known_so : known_at known look.path ≡ Some seen
+  pub other : seen ≢ look_for look.found
+  pub small : IsSmall look.found
 
 abbrev pub LooksAgain : State → List LookSeen → Result Bool LookupFault → State → Type 0
 LooksAgain before looks (Ok true) after = IsSeenAgain before looks after

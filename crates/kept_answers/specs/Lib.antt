@@ -1,3 +1,6 @@
 pub mod KnownLooks
 pub mod Entries
 pub mod Tables
+pub mod Freshness
+pub mod Footprints
+pub mod Puts

@@ -1,7 +1,7 @@
 //! The answers of a walk that are kept for a later one, each with the looks that decided it. The paths of these looks
 //! are looked at again, in their order, each counted, up to the first that sees otherwise. Where none does, the kept
-//! answer is given; else the question is asked anew. The clauses say of the answers what those of `module_source` and
-//! `resolve` say, but for the footprint of a `Found`; that an answer is kept, and given without a step, none says.
+//! answer is given, without a step; else the question is asked anew. Each answer that is given is kept for the next
+//! walk.
 #![tactic(auto)]
 
 mod key;
@@ -15,5 +15,4 @@ pub use key::RequestKey;
 pub use looks::LookedAt;
 pub use modules::{KeptModule, KeptModules};
 pub use requests::{KeptRequest, KeptRequests};
-pub use resolving::request_answer;
-pub use sources::module_answer;
+pub use resolving::Requested;

@@ -1,14 +1,17 @@
 //! The looks of a question, with what they saw.
-ghost use Rattle.std.specs.Prelude.{◌≡◌, IfOk};
+ghost use Rattle.std.specs.Prelude.{◌≡◌, Some, IfOk};
 ghost use Rattle.std.specs.Bool.{Decides};
-ghost use Rattle.tree_spec.specs.LookAskings.{look_at_each};
-ghost use Rattle.package_lookup.specs.Answered.{state, Answered};
+ghost use Rattle.tree_spec.specs.LookAskings.{look_at, look_at_each};
+ghost use Rattle.package_lookup.specs.Answered.{Answered};
 ghost use Rattle.package_lookup.specs.LaidTrees.{look_for};
+ghost use Rattle.package_lookup.specs.Looked.{known_at};
+ghost use Rattle.package_lookup.specs.Lookups.{state_of, IsSameLookup};
 ghost use Rattle.package_lookup.specs.Responses.{looked};
 ghost use Rattle.package_lookup.specs.SeenLooks.{entry_of, look_seen};
+ghost use Rattle.package_lookup.specs.Trails.{IsCounted};
 ghost use Rattle.kept_answers.specs.KnownLooks.{done, IsSmall, AreLooksAt, LooksAgain};
 
-use package_lookup::{Known, LookupFault, Seen, Trail};
+use package_lookup::{Lookup, LookupFault, Seen};
 use shared_types::{Listed, Memory};
 use std::alloc::Global;
 use std::marker::Model;
@@ -82,17 +85,15 @@ fn same_seen(one: &Seen, other: &Seen) -> bool
 
 /// Looks again at the paths of the present question, which leaves the trail.
 pub(crate) fn looks_of<F: Folder>(
-    alloc: Global,
-    known: &mut Known,
-    folder: &mut F,
-    trail: &mut Trail,
+    lookup: &mut Lookup<'_, F>,
 ) -> Result<Listed<LookedAt>, LookupFault>
-    ensures answered { Answered (state (F.state folder.old) known.old trail.old) (look_at_each trail.old.question)
-        (looked done result) (state (F.state folder.new) known.new trail.new) }
-    ensures looks { IfOk result (λ looks. AreLooksAt known.new trail.old.question looks) }
+    ensures answered { Answered (state_of F.state lookup.old) (look_at_each lookup.old.trail.now.question)
+        (looked done result) (state_of F.state lookup.new) }
+    ensures looks { IfOk result (λ looks. AreLooksAt lookup.new.known.now lookup.old.trail.now.question looks) }
+    ensures same { IsSameLookup lookup.old lookup.new }
 {
-    let paths = copy_of(alloc, trail.question())?;
-    looks_at(alloc, known, folder, trail, paths.as_slice())
+    let paths = copy_of(lookup.alloc, lookup.trail.question())?;
+    looks_at(lookup, paths.as_slice())
 }
 
 fn copy_of(alloc: Global, paths: &Paths) -> Result<Paths, Memory>
@@ -105,23 +106,34 @@ fn copy_of(alloc: Global, paths: &Paths) -> Result<Paths, Memory>
     Ok(copy)
 }
 
+// A look at a path.
+fn seen_at<F: Folder>(lookup: &mut Lookup<'_, F>, path: &Path) -> Result<Seen, LookupFault>
+    ensures answered { Answered (state_of F.state lookup.old) (look_at path.now)
+        (looked entry_of result) (state_of F.state lookup.new) }
+    ensures counted { IsCounted entry_of lookup.old.trail.now path.now result lookup.new.trail.now }
+    ensures held { IfOk result (λ seen. known_at lookup.new.known.now path.now ≡ Some (look_seen seen)) }
+    ensures same { IsSameLookup lookup.old lookup.new }
+{
+    lookup
+        .known
+        .look(lookup.alloc, lookup.folder, path, lookup.trail)
+}
+
 // Looks at these paths, one after another.
 fn looks_at<F: Folder>(
-    alloc: Global,
-    known: &mut Known,
-    folder: &mut F,
-    trail: &mut Trail,
+    lookup: &mut Lookup<'_, F>,
     paths: &[Path],
 ) -> Result<Listed<LookedAt>, LookupFault>
-    ensures answered { Answered (state (F.state folder.old) known.old trail.old) (look_at_each paths.now)
-        (looked done result) (state (F.state folder.new) known.new trail.new) }
-    ensures looks { IfOk result (λ looks. AreLooksAt known.new paths.now looks) }
+    ensures answered { Answered (state_of F.state lookup.old) (look_at_each paths.now)
+        (looked done result) (state_of F.state lookup.new) }
+    ensures looks { IfOk result (λ looks. AreLooksAt lookup.new.known.now paths.now looks) }
+    ensures same { IsSameLookup lookup.old lookup.new }
 {
-    let mut looks = Listed::new(alloc);
+    let mut looks = Listed::new(lookup.alloc);
     let mut rest = paths;
     while let Some((path, others)) = rest.split_first() {
-        let seen = known.look(alloc, folder, path, trail)?;
-        looks.push(LookedAt::of(path.copy(alloc)?, seen))?;
+        let seen = seen_at(lookup, path)?;
+        looks.push(LookedAt::of(path.copy(lookup.alloc)?, seen))?;
         rest = others;
     }
     Ok(looks)
@@ -129,19 +141,17 @@ fn looks_at<F: Folder>(
 
 /// Looks again at the paths of these looks, in a new question, up to the first that sees otherwise. Whether none does.
 pub(crate) fn look_again<F: Folder>(
-    alloc: Global,
-    known: &mut Known,
-    folder: &mut F,
-    trail: &mut Trail,
+    lookup: &mut Lookup<'_, F>,
     looks: &[LookedAt],
 ) -> Result<bool, LookupFault>
-    ensures { LooksAgain (state (F.state folder.old) known.old trail.old) looks.now result
-        (state (F.state folder.new) known.new trail.new) }
+    ensures again { LooksAgain (state_of F.state lookup.old) looks.now result
+        (state_of F.state lookup.new) }
+    ensures same { IsSameLookup lookup.old lookup.new }
 {
-    trail.begin();
+    lookup.trail.begin();
     let mut rest = looks;
     while let Some((look, others)) = rest.split_first() {
-        let seen = known.look(alloc, folder, look.path(), trail)?;
+        let seen = seen_at(lookup, look.path())?;
         if !look.saw(&seen) {
             return Ok(false);
         }

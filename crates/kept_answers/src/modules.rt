@@ -3,6 +3,7 @@ ghost use Rattle.std.specs.Prelude.{if◌then◌else◌};
 ghost use Rattle.std.specs.HashMap as map;
 ghost use Rattle.module_sources.specs.Shown.{IsSource};
 ghost use Rattle.kept_answers.specs.Entries.{module_seen};
+ghost use Rattle.kept_answers.specs.Freshness.{module_looks, put_looks};
 ghost use Rattle.kept_answers.specs.Tables.{modules_at, IsModuleOf, AreModules};
 
 use crate::looks::LookedAt;
@@ -106,7 +107,10 @@ impl KeptModules {
 
     /// Keeps the source of a module.
     pub fn put(&mut self, alloc: Global, path: &Path, kept: KeptModule) -> Result<(), Memory>
-        ensures { IsModuleOf path.now kept → AreModules self.old → AreModules self.new }
+        ensures set { OnOk result ((other : List ℕ) → module_looks self.new other
+            ≡ put_looks bytes_eq path.now kept.looks (module_looks self.old) other) }
+        ensures same { OnErr result ((other : List ℕ) → module_looks self.new other ≡ module_looks self.old other) }
+        ensures right { IsModuleOf path.now kept → AreModules self.old → AreModules self.new }
     {
         let path = path.copy(alloc)?;
         insert(&mut self.entries, path, kept)

@@ -1,7 +1,10 @@
-ghost use Rattle.std.specs.Prelude.{◌≡◌, None, Some, IfOk, IfSome, OnOk, OnErr, option_copied};
+ghost use Rattle.std.specs.Prelude.{◌≡◌, None, Some, IfOk, IfSome, OnOk, OnErr, option_copied, bytes_eq, slice_get};
 ghost use Rattle.std.specs.Prelude.{if◌then◌else◌};
+ghost use Rattle.std.specs.Bool.{Decides};
+ghost use Rattle.std.specs.Cmp.Lexicographic.{pointwise};
 ghost use Rattle.std.specs.HashMap as map;
 ghost use Rattle.kept_answers.specs.Entries.{Request, is_request};
+ghost use Rattle.kept_answers.specs.Freshness.{put_looks, request_looks};
 ghost use Rattle.kept_answers.specs.Tables.{requests_at, IsRequestOf, AreRequests};
 
 use crate::key::RequestKey;
@@ -52,6 +55,14 @@ impl KeptRequests {
         })
     }
 
+    /// Whether these are the conditions.
+    pub fn is_under(&self, conditions: &Conditions) -> bool
+        ensures same { result ≡ pointwise bytes_eq self.now.names conditions.now }
+        ensures is { Decides result (self.now.names ≡ conditions.now) }
+    {
+        are_same(&self.names, conditions)
+    }
+
     /// What is kept of a request.
     pub fn get(&self, request: &RequestKey) -> Option<&KeptRequest>
         ensures get { option_copied result ≡ requests_at self.now request.now }
@@ -63,6 +74,9 @@ impl KeptRequests {
 
     /// Keeps the answer to a request.
     pub fn put(&mut self, request: RequestKey, kept: KeptRequest) -> Result<(), Memory>
+        ensures set { OnOk result ((other : Request) → request_looks self.new other
+            ≡ put_looks is_request request kept.looks.value (request_looks self.old) other) }
+        ensures same { OnErr result ((other : Request) → request_looks self.new other ≡ request_looks self.old other) }
         ensures names { self.new.names ≡ self.old.names }
         ensures right { IsRequestOf self.old.names request kept → AreRequests self.old → AreRequests self.new }
     {
@@ -81,6 +95,35 @@ fn names_of(alloc: Global, conditions: &Conditions) -> Result<Listed<Text>, Memo
         names.push(name.copy(alloc)?)?;
     }
     Ok(names)
+}
+
+fn are_same(names: &Listed<Text>, conditions: &Conditions) -> bool
+    ensures { Decides result (names.now ≡ conditions.now) }
+{
+    if names.len() != conditions.len() {
+        return false;
+    }
+    for index in 0..names.len() {
+        if !is_same(names, conditions, index) {
+            return false;
+        }
+    }
+    true
+}
+
+fn is_same(names: &Listed<Text>, conditions: &Conditions, index: usize) -> bool
+    ensures { Decides result (slice_get names.now index ≡ slice_get conditions.now index) }
+{
+    match names.at(index) {
+        None => match conditions.at(index) {
+            None => true,
+            Some(_) => false,
+        },
+        Some(own) => match conditions.at(index) {
+            None => false,
+            Some(other) => own == other,
+        },
+    }
 }
 
 fn insert(

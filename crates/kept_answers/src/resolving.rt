@@ -1,14 +1,18 @@
 //! The module to which a request leads, as it is kept or anew.
-ghost use Rattle.std.specs.Prelude.{◌≡◌, ◌≤◌, ◌+◌, List, Ok, IfOk, IfSome};
+ghost use Rattle.std.specs.Prelude.{◌≡◌, ◌≤◌, ◌+◌, List, Some, Ok, IfOk, IfSome, OnOk, OnErr};
 ghost use Rattle.tree_spec.specs.LookAskings.{look_at_each};
-ghost use Rattle.tree_spec.specs.LookLimits.{begun};
 ghost use Rattle.node_spec.specs.EsmResolve as spec;
 ghost use Rattle.node_resolve.specs.Places.{module_of};
 ghost use Rattle.node_resolve.specs.Responses.{node_fault, responded};
-ghost use Rattle.package_lookup.specs.Answered.{state, Answered};
+ghost use Rattle.package_lookup.specs.Answered.{Answered};
+ghost use Rattle.package_lookup.specs.Lookups.{begun_of, state_of, IsSameLookup};
 ghost use Rattle.package_lookup.specs.Responses.{looked};
-ghost use Rattle.kept_spec.specs.Certificates.{LookSeen};
+ghost use Rattle.kept_spec.specs.Certificates.{LookSeen, paths_of};
+ghost use Rattle.kept_answers.specs.Entries.{Request, is_request};
+ghost use Rattle.kept_answers.specs.Footprints.{HasFootprint};
+ghost use Rattle.kept_answers.specs.Freshness.{put_looks, request_looks, IsSeenNow, StaysSeen, TakesStepIfFresh};
 ghost use Rattle.kept_answers.specs.KnownLooks.{done, AreLooksAt, IsKept};
+ghost use Rattle.kept_answers.specs.Puts.{PutsLooks};
 ghost use Rattle.kept_answers.specs.Tables.{IsRequestOf, AreRequests};
 
 use crate::key::RequestKey;
@@ -16,51 +20,61 @@ use crate::looks::{LookedAt, look_again, looks_of};
 use crate::requests::{KeptRequest, KeptRequests};
 use condition_match::Conditions;
 use node_resolve::{Cause, Found, NodeFault, resolve};
-use package_lookup::{Known, LookupFault, Trail, some_sights};
+use package_lookup::{Lookup, LookupFault, some_sights};
 use shared_types::{Listed, Memory, Steps, Text};
 use std::alloc::Global;
 use std::rc::Rc;
 use std::sync::ledger::Ledger;
 use tree_model::{Folder, Path};
 
-/// The module that a specifier gives in the file at a path: what `resolve` gives, without a step where it is kept and
-/// what decided it stands there still. It is put into the next table. Both tables are those of these conditions.
-pub fn request_answer<F: Folder, L: Ledger>(
-    alloc: Global,
-    known: &mut Known,
-    folder: &mut F,
-    trail: &mut Trail,
-    parent: &Path,
-    specifier: &str,
-    conditions: &Conditions,
-    steps: &mut Steps<L>,
-    kept: &KeptRequests,
-    next: &mut KeptRequests,
-) -> Result<Rc<Found>, NodeFault>
-    requires kept { kept.now.names ≡ conditions.now }
-    requires next { next.old.names ≡ conditions.now }
-    requires right { IfSome (F.state folder.old).holds (λ tree. AreRequests kept.now) }
-    ensures answered { Answered (state (F.state folder.old) known.old (begun trail.old))
-        (spec.node conditions.now parent.now specifier.now)
-        (responded (λ found. module_of found.value) result) (state (F.state folder.new) known.new trail.new) }
-    ensures cost { steps.new ≤ steps.old + 1 }
-    ensures names { next.new.names ≡ next.old.names }
-    ensures right { IfSome (F.state folder.old).holds (λ tree. AreRequests next.old → AreRequests next.new) }
-{
-    match key_of(alloc, parent, specifier) {
-        Err(_) => {
-            trail.begin();
-            Err(NodeFault::Memory)
+/// A request: the path of who asks, the specifier, and the conditions.
+#[derive(Drop)]
+pub struct Requested<'a> {
+    pub parent: &'a Path,
+    pub specifier: &'a str,
+    pub conditions: &'a Conditions,
+}
+
+impl KeptRequests {
+    /// The module to which a request leads: what `resolve` gives, without a step where it is kept here and what decided
+    /// it stands there still. It is kept in the next table. Both tables are those of the request's conditions.
+    pub fn answer<F: Folder, L: Ledger>(
+        &self,
+        lookup: &mut Lookup<'_, F>,
+        request: Requested<'_>,
+        steps: &mut Steps<L>,
+        next: &mut KeptRequests,
+    ) -> Result<Rc<Found>, NodeFault>
+        requires names { self.now.names ≡ request.conditions.now }
+        requires next { next.old.names ≡ request.conditions.now }
+        requires right { IfSome (F.state lookup.old.folder.now).holds (λ tree. AreRequests self.now) }
+        ensures answered { Answered (begun_of F.state lookup.old)
+            (spec.node request.conditions.now request.parent.now request.specifier.now)
+            (responded (λ found. module_of found.value) result) (state_of F.state lookup.new) }
+        ensures footprint { HasFootprint (F.state lookup.old.folder.now) lookup.old.known.now
+            (spec.node request.conditions.now request.parent.now request.specifier.now) result }
+        ensures cost { steps.new ≤ steps.old + 1 }
+        ensures fresh { TakesStepIfFresh (F.state lookup.old.folder.now) lookup.old.known.now (request_looks self.now
+            (record { parent = request.parent.now; specifier = request.specifier.now })) steps.old steps.new }
+        ensures kept { IfOk result (λ found. IsSeenNow (state_of F.state lookup.old) (request_looks next.new
+            (record { parent = request.parent.now; specifier = request.specifier.now }))) }
+        ensures still { (other : Request) → StaysSeen (state_of F.state lookup.old)
+            (request_looks next.old other) (request_looks next.new other) }
+        ensures names { next.new.names ≡ next.old.names }
+        ensures right { IfSome (F.state lookup.old.folder.now).holds
+            (λ tree. AreRequests next.old → AreRequests next.new) }
+        ensures same { IsSameLookup lookup.old lookup.new }
+    {
+        match key_of(lookup.alloc, request.parent, request.specifier) {
+            Err(_) => {
+                lookup.trail.begin();
+                Err(NodeFault::Memory)
+            }
+            Ok(key) => match self.get(&key) {
+                None => request_anew(lookup, request, steps, next, key),
+                Some(found) => request_again(lookup, request, steps, next, key, found),
+            },
         }
-        Ok(request) => match kept.get(&request) {
-            None => request_anew(
-                alloc, known, folder, trail, parent, specifier, conditions, steps, next, request,
-            ),
-            Some(found) => request_again(
-                alloc, known, folder, trail, parent, specifier, conditions, steps, next, request,
-                found,
-            ),
-        },
     }
 }
 
@@ -74,34 +88,36 @@ fn key_of(alloc: Global, parent: &Path, specifier: &str) -> Result<RequestKey, M
 
 // The kept module, where the looks that decided it see the same; else the module anew.
 fn request_again<F: Folder, L: Ledger>(
-    alloc: Global,
-    known: &mut Known,
-    folder: &mut F,
-    trail: &mut Trail,
-    parent: &Path,
-    specifier: &str,
-    conditions: &Conditions,
+    lookup: &mut Lookup<'_, F>,
+    request: Requested<'_>,
     steps: &mut Steps<L>,
     next: &mut KeptRequests,
-    request: RequestKey,
+    key: RequestKey,
     found: &KeptRequest,
 ) -> Result<Rc<Found>, NodeFault>
-    requires request { request ≡ record { parent = parent.now; specifier = specifier.now } }
-    requires next { next.old.names ≡ conditions.now }
-    requires right { IfSome (F.state folder.old).holds (λ tree. IsRequestOf conditions.now request found.now) }
-    ensures answered { Answered (state (F.state folder.old) known.old (begun trail.old))
-        (spec.node conditions.now parent.now specifier.now)
-        (responded (λ found. module_of found.value) result) (state (F.state folder.new) known.new trail.new) }
+    requires key { key ≡ record { parent = request.parent.now; specifier = request.specifier.now } }
+    requires next { next.old.names ≡ request.conditions.now }
+    requires right { IfSome (F.state lookup.old.folder.now).holds
+        (λ tree. IsRequestOf request.conditions.now key found.now) }
+    ensures answered { Answered (begun_of F.state lookup.old)
+        (spec.node request.conditions.now request.parent.now request.specifier.now)
+        (responded (λ found. module_of found.value) result) (state_of F.state lookup.new) }
+    ensures footprint { HasFootprint (F.state lookup.old.folder.now) lookup.old.known.now
+        (spec.node request.conditions.now request.parent.now request.specifier.now) result }
     ensures cost { steps.new ≤ steps.old + 1 }
+    ensures fresh { TakesStepIfFresh (F.state lookup.old.folder.now) lookup.old.known.now
+        (Some found.now.looks.value) steps.old steps.new }
+    ensures kept { IfOk result (λ found. IsSeenNow (state_of F.state lookup.old) (request_looks next.new key)) }
+    ensures still { (other : Request) → StaysSeen (state_of F.state lookup.old)
+        (request_looks next.old other) (request_looks next.new other) }
     ensures names { next.new.names ≡ next.old.names }
-    ensures right { IfSome (F.state folder.old).holds (λ tree. AreRequests next.old → AreRequests next.new) }
+    ensures right { IfSome (F.state lookup.old.folder.now).holds (λ tree. AreRequests next.old → AreRequests next.new) }
+    ensures same { IsSameLookup lookup.old lookup.new }
 {
-    match look_again(alloc, known, folder, trail, found.looks.as_slice()) {
+    match look_again(lookup, found.looks.as_slice()) {
         Err(fault) => Err(fault_of(fault)),
-        Ok(false) => request_anew(
-            alloc, known, folder, trail, parent, specifier, conditions, steps, next, request,
-        ),
-        Ok(true) => match keep_again(next, request, found) {
+        Ok(false) => request_anew(lookup, request, steps, next, key),
+        Ok(true) => match keep_again(next, key, found) {
             Err(_) => Err(NodeFault::Memory),
             Ok(own) => Ok(own),
         },
@@ -126,6 +142,9 @@ fn keep_again(
     found: &KeptRequest,
 ) -> Result<Rc<Found>, Memory>
     ensures found { IfOk result (λ own. own.value ≡ found.now.found.value) }
+    ensures set { OnOk result ((other : Request) → request_looks next.new other
+        ≡ put_looks is_request request found.now.looks.value (request_looks next.old) other) }
+    ensures unset { OnErr result ((other : Request) → request_looks next.new other ≡ request_looks next.old other) }
     ensures names { next.new.names ≡ next.old.names }
     ensures right { IsRequestOf next.old.names request found.now → AreRequests next.old → AreRequests next.new }
 {
@@ -136,32 +155,37 @@ fn keep_again(
 
 // The module, by new looks, which are kept with it.
 fn request_anew<F: Folder, L: Ledger>(
-    alloc: Global,
-    known: &mut Known,
-    folder: &mut F,
-    trail: &mut Trail,
-    parent: &Path,
-    specifier: &str,
-    conditions: &Conditions,
+    lookup: &mut Lookup<'_, F>,
+    request: Requested<'_>,
     steps: &mut Steps<L>,
     next: &mut KeptRequests,
-    request: RequestKey,
+    key: RequestKey,
 ) -> Result<Rc<Found>, NodeFault>
-    requires request { request ≡ record { parent = parent.now; specifier = specifier.now } }
-    requires next { next.old.names ≡ conditions.now }
-    ensures answered { Answered (state (F.state folder.old) known.old (begun trail.old))
-        (spec.node conditions.now parent.now specifier.now)
-        (responded (λ found. module_of found.value) result) (state (F.state folder.new) known.new trail.new) }
+    requires key { key ≡ record { parent = request.parent.now; specifier = request.specifier.now } }
+    requires next { next.old.names ≡ request.conditions.now }
+    ensures answered { Answered (begun_of F.state lookup.old)
+        (spec.node request.conditions.now request.parent.now request.specifier.now)
+        (responded (λ found. module_of found.value) result) (state_of F.state lookup.new) }
+    ensures footprint { HasFootprint (F.state lookup.old.folder.now) lookup.old.known.now
+        (spec.node request.conditions.now request.parent.now request.specifier.now) result }
     ensures cost { steps.new ≤ steps.old + 1 }
+    ensures kept { IfOk result (λ found. IsSeenNow (state_of F.state lookup.old) (request_looks next.new key)) }
+    ensures still { (other : Request) → StaysSeen (state_of F.state lookup.old)
+        (request_looks next.old other) (request_looks next.new other) }
     ensures names { next.new.names ≡ next.old.names }
-    ensures right { IfSome (F.state folder.old).holds (λ tree. AreRequests next.old → AreRequests next.new) }
+    ensures right { IfSome (F.state lookup.old.folder.now).holds (λ tree. AreRequests next.old → AreRequests next.new) }
+    ensures same { IsSameLookup lookup.old lookup.new }
 {
     some_sights();
     match resolve(
-        alloc, known, folder, trail, parent, specifier, conditions, steps,
+        lookup,
+        request.parent,
+        request.specifier,
+        request.conditions,
+        steps,
     ) {
         Err(fault) => Err(fault),
-        Ok(found) => match keep_request(alloc, known, folder, trail, next, request, found) {
+        Ok(found) => match keep_request(lookup, next, key, found) {
             Err(fault) => Err(fault_of(fault)),
             Ok(own) => Ok(own),
         },
@@ -170,24 +194,25 @@ fn request_anew<F: Folder, L: Ledger>(
 
 // Keeps a module with the looks of the present question.
 fn keep_request<F: Folder>(
-    alloc: Global,
-    known: &mut Known,
-    folder: &mut F,
-    trail: &mut Trail,
+    lookup: &mut Lookup<'_, F>,
     next: &mut KeptRequests,
     request: RequestKey,
     found: Found,
 ) -> Result<Rc<Found>, LookupFault>
-    ensures answered { Answered (state (F.state folder.old) known.old trail.old) (look_at_each trail.old.question)
-        (looked done result) (state (F.state folder.new) known.new trail.new) }
+    ensures answered { Answered (state_of F.state lookup.old) (look_at_each lookup.old.trail.now.question)
+        (looked done result) (state_of F.state lookup.new) }
     ensures found { IfOk result (λ own. own.value ≡ found) }
+    ensures set { IfOk result (λ own. PutsLooks is_request request (request_looks next.old) (request_looks next.new)
+        lookup.new.known.now lookup.old.trail.now.question) }
+    ensures unset { OnErr result ((other : Request) → request_looks next.new other ≡ request_looks next.old other) }
     ensures names { next.new.names ≡ next.old.names }
-    ensures right { ((looks : List LookSeen) → AreLooksAt known.new trail.old.question looks
+    ensures right { ((looks : List LookSeen) → AreLooksAt lookup.new.known.now lookup.old.trail.now.question looks
         → IsKept (spec.node next.old.names request.parent request.specifier) (Ok (module_of found)) looks)
-        → AreRequests next.old → AreRequests next.new }
+        → found.footprint ≡ lookup.old.trail.now.question → AreRequests next.old → AreRequests next.new }
+    ensures same { IsSameLookup lookup.old lookup.new }
 {
-    let looks = looks_of(alloc, known, folder, trail)?;
-    let own = put_request(alloc, next, request, found, looks)?;
+    let looks = looks_of(lookup)?;
+    let own = put_request(lookup.alloc, next, request, found, looks)?;
     Ok(own)
 }
 
@@ -199,9 +224,12 @@ fn put_request(
     looks: Listed<LookedAt>,
 ) -> Result<Rc<Found>, Memory>
     ensures found { IfOk result (λ own. own.value ≡ found) }
+    ensures set { OnOk result ((other : Request) → request_looks next.new other
+        ≡ put_looks is_request request looks (request_looks next.old) other) }
+    ensures unset { OnErr result ((other : Request) → request_looks next.new other ≡ request_looks next.old other) }
     ensures names { next.new.names ≡ next.old.names }
     ensures right { IsKept (spec.node next.old.names request.parent request.specifier) (Ok (module_of found)) looks
-        → AreRequests next.old → AreRequests next.new }
+        → found.footprint ≡ paths_of looks → AreRequests next.old → AreRequests next.new }
 {
     let found = Rc::new(alloc, found)?;
     let looks = Rc::new(alloc, looks)?;

@@ -1,5 +1,5 @@
 -- The laws of certificates. Each is the contract of a function of this crate.
-use Rattle.std.specs.Prelude.{◌≡◌, ◌↔◌, ◌++◌, [], ◌∷◌, ℕ, List}
+use Rattle.std.specs.Prelude.{◌≡◌, ◌↔◌, ◌++◌, [], ◌∷◌, ℕ, true, false, List}
 use Rattle.asking_spec.specs.Askings.{outcome}
 use Rattle.asking_spec.specs.Evaluation.{ends, stopped, evaluated}
 use Rattle.asking_spec.specs.Laws.{AgreesOn}
@@ -7,6 +7,7 @@ use Rattle.tree_spec.specs.LookAskings.{Sights, LookAsking, look_at_each, footpr
 use Rattle.tree_spec.specs.LookLimits.{LookLimits, Trail, begun, limited}
 use Rattle.tree_spec.specs.declared.LimitName.{LimitName}
 use Rattle.kept_spec.specs.Certificates.{LookSeen, paths_of, looks_seen, AreSeen, IsShown, IsCertified}
+use Rattle.kept_spec.specs.Freshness.{see_same, HasChanged}
 use Rattle.kept_spec.specs.Replays.{replayed, IsFront}
 
 -- whatever stands where: the looks of the footprint certify what the asking comes to
@@ -42,6 +43,26 @@ abbrev pub SeenIfAgreed : Type 0
 SeenIfAgreed =
     (before after : Sights) (paths : List (List ℕ))
     → AreSeen after (looks_seen before paths) ↔ AgreesOn before after paths
+
+-- ---- what is fresh behind a change
+
+abbrev pub SameIsSeen : Type 0
+SameIsSeen = (sights : Sights) (looks : List LookSeen) → (see_same sights looks ≡ true) ↔ AreSeen sights looks
+
+-- a certified answer whose looks saw what stood there before is the answer afterwards too, or something changed at the
+-- asking's footprint
+abbrev pub OtherIsChanged : Type 0 → Type 0
+OtherIsChanged X =
+    (before after : Sights) (asking : LookAsking X) (value : X) (looks : List LookSeen)
+    → IsCertified asking value looks → AreSeen before looks → see_same after looks ≡ false
+    → HasChanged before after asking
+
+-- and where nothing changed there, they see the same
+abbrev pub UnchangedIsSame : Type 0 → Type 0
+UnchangedIsSame X =
+    (before after : Sights) (asking : LookAsking X) (value : X) (looks : List LookSeen)
+    → IsCertified asking value looks → AreSeen before looks → (HasChanged before after asking → ⊥)
+    → see_same after looks ≡ true
 
 -- ---- looks at a part of the paths
 

@@ -1,4 +1,5 @@
 pub mod Replays
 pub mod Certificates
+pub mod Freshness
 pub mod Laws
 pub mod CertificateExamples

@@ -5,6 +5,7 @@
 ghost use Rattle.kept_spec.specs.CertificateExamples.{CertificateExamples};
 ghost use Rattle.kept_spec.specs.Laws.{OutcomeIsCertified, EndIsCertified, CertifiedIsAsked, OneCertified};
 ghost use Rattle.kept_spec.specs.Laws.{SeenIfAgreed, FrontIsLooked, FrontGoesBefore, FrontStops, QuestionIsCounted};
+ghost use Rattle.kept_spec.specs.Laws.{SameIsSeen, OtherIsChanged, UnchangedIsSame};
 ghost use Rattle.kept_spec.specs.Replays.{ReplaysFootprint};
 
 /// To look at the footprint of an asking again, in its order, is to ask it.
@@ -38,6 +39,22 @@ pub fn one_certified<X>()
 /// What was seen is seen again exactly where nothing changed.
 pub fn seen_if_agreed()
     ensures { SeenIfAgreed }
+{}
+
+/// Whether all looks see the same can be computed.
+#[tactic(auto, using(crate::proofs::Freshening::same_is_seen))]
+pub fn same_is_seen()
+    ensures { SameIsSeen }
+{}
+
+/// Where the looks of a certificate see something else than before, something changed at the asking's footprint.
+pub fn other_is_changed<X>()
+    ensures { OtherIsChanged X }
+{}
+
+/// Where nothing changed there, they see the same.
+pub fn unchanged_is_same<X>()
+    ensures { UnchangedIsSame X }
 {}
 
 /// Where the first looks of a certificate see the same, the asking begins with these looks and the next one.

@@ -44,19 +44,18 @@ impl Counts {
 
 /// The counts with the answer to one pair; where what asks isn't a path, they stay as they are.
 fn with_pair<F: Folder, L: Ledger>(
-    alloc: Global,
     lookup: &mut Lookup<'_, F>,
     pair: (&str, &str),
     conditions: &Conditions,
     steps: &mut Steps<L>,
     counts: Counts,
 ) -> Result<Counts, NodeFault> {
-    let parent = match Path::parse(alloc, pair.0) {
+    let parent = match Path::parse(lookup.alloc, pair.0) {
         Ok(parent) => parent,
         Err(PathFault::BadPath) => return Ok(counts),
         Err(PathFault::Memory) => return Err(NodeFault::Memory),
     };
-    match resolve(alloc, lookup, &parent, pair.1, conditions, steps) {
+    match resolve(lookup, &parent, pair.1, conditions, steps) {
         Ok(_) => Ok(counts.with_module()),
         Err(NodeFault::Refused(_)) => Ok(counts.with_refusal()),
         Err(fault) => Err(fault),
@@ -74,6 +73,7 @@ fn round<F: Folder, L: Ledger>(
 ) -> Result<Counts, NodeFault> {
     let mut trail = Trail::new(alloc);
     let mut lookup = Lookup {
+        alloc,
         known,
         folder,
         trail: &mut trail,
@@ -81,7 +81,7 @@ fn round<F: Folder, L: Ledger>(
     let mut counts = Counts::none();
     for line in pairs.lines() {
         if let Some(pair) = line.split_once(' ') {
-            counts = with_pair(alloc, &mut lookup, pair, conditions, steps, counts)?;
+            counts = with_pair(&mut lookup, pair, conditions, steps, counts)?;
         }
     }
     Ok(counts)

@@ -28,7 +28,6 @@ use tree_spec::LimitName;
 /// The source of the file at a path, or why it has none. It begins a question: first the format is asked for, and then
 /// the file is looked at. It takes one step at most.
 pub fn module_source<F: Folder, L: Ledger>(
-    alloc: Global,
     lookup: &mut Lookup<'_, F>,
     path: &Path,
     steps: &mut Steps<L>,
@@ -39,9 +38,9 @@ pub fn module_source<F: Folder, L: Ledger>(
     ensures is { FindsSource result }
     ensures same { IsSameLookup lookup.old lookup.new }
 {
-    match format_of(alloc, lookup, path) {
+    match format_of(lookup, path) {
         Err(fault) => without_format(fault),
-        Ok(format) => source_by_format(alloc, lookup, path, format, steps),
+        Ok(format) => source_by_format(lookup, path, format, steps),
     }
 }
 
@@ -70,7 +69,6 @@ fn above_limit(which: LimitName) -> Result<Result<Source, NoSource>, LookupFault
 
 // The source of a file with this format.
 fn source_by_format<F: Folder, L: Ledger>(
-    alloc: Global,
     lookup: &mut Lookup<'_, F>,
     path: &Path,
     format: Format,
@@ -84,15 +82,14 @@ fn source_by_format<F: Folder, L: Ledger>(
     ensures same { IsSameLookup lookup.old lookup.new }
 {
     match format {
-        Format::Module => read_module(alloc, lookup, path, false, steps),
-        Format::Detect => read_module(alloc, lookup, path, true, steps),
+        Format::Module => read_module(lookup, path, false, steps),
+        Format::Detect => read_module(lookup, path, true, steps),
         Format::Not(reason) => Ok(Err(NoSource::NotModule { reason })),
     }
 }
 
 // The source of the file at a path, where its format is that of a module or its text decides.
 fn read_module<F: Folder, L: Ledger>(
-    alloc: Global,
     lookup: &mut Lookup<'_, F>,
     path: &Path,
     is_detected: bool,
@@ -104,9 +101,12 @@ fn read_module<F: Folder, L: Ledger>(
     ensures is { FindsSource result }
     ensures same { IsSameLookup lookup.old lookup.new }
 {
-    match lookup.known.look(alloc, lookup.folder, path, lookup.trail) {
+    match lookup
+        .known
+        .look(lookup.alloc, lookup.folder, path, lookup.trail)
+    {
         Err(fault) => Err(fault),
-        Ok(seen) => Ok(source_seen(alloc, seen, is_detected, steps)?),
+        Ok(seen) => Ok(source_seen(lookup.alloc, seen, is_detected, steps)?),
     }
 }
 

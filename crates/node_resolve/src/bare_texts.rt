@@ -61,13 +61,7 @@ impl<'a, 'b, F: Folder> BareTarget for BareTexts<'a, 'b, F> {
     ghost fails = { λ old text new. ⊥ };
 
     fn bare(&mut self, alloc: Global, text: &str) -> Result<BareAnswer, Memory> {
-        let resolved = package_resolve(
-            alloc,
-            self.lookup,
-            self.package_folder,
-            text,
-            self.conditions,
-        );
+        let resolved = package_resolve(self.lookup, self.package_folder, text, self.conditions);
         match found_of(resolved) {
             Ok(found) => {
                 let answer = judge_bare(&found);
@@ -111,7 +105,6 @@ fn judge_bare(found: &Result<FileUrl, Refusal>) -> BareAnswer
 
 /// The URL that a target in `imports` gives in the package at a folder, by what is left of it.
 pub fn import_target<F: Folder>(
-    alloc: Global,
     lookup: &mut Lookup<'_, F>,
     package_folder: &Path,
     target: &Value,
@@ -127,23 +120,14 @@ pub fn import_target<F: Folder>(
     ensures same { IsSameLookup lookup.old lookup.new }
 {
     let mut last = None;
-    match chosen(
-        alloc,
-        lookup,
-        package_folder,
-        target,
-        star,
-        conditions,
-        &mut last,
-    ) {
+    match chosen(lookup, package_folder, target, star, conditions, &mut last) {
         Err(fault) => Err(fault),
-        Ok(outcome) => url_of(alloc, package_folder, outcome, last),
+        Ok(outcome) => url_of(lookup.alloc, package_folder, outcome, last),
     }
 }
 
 /// What a target comes to. The answer to the bare text that was asked for last is put into `last`.
 fn chosen<F: Folder>(
-    alloc: Global,
     lookup: &mut Lookup<'_, F>,
     package_folder: &Path,
     target: &Value,
@@ -160,6 +144,7 @@ fn chosen<F: Folder>(
     ensures place { IfOk result BeginsWithDotSlash }
     ensures same { IsSameLookup lookup.old lookup.new }
 {
+    let alloc = lookup.alloc;
     let mut bares = BareTexts {
         lookup,
         package_folder,

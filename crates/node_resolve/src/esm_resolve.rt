@@ -29,7 +29,6 @@ use web_url::{FileUrl, Scheme, file_url, is_relative, scheme_of};
 /// The module that a specifier gives in the file at the path `parent`, by Node's resolution. It begins a question,
 /// whose paths are the footprint, and takes one step.
 pub fn resolve<F: Folder, L: Ledger>(
-    alloc: Global,
     lookup: &mut Lookup<'_, F>,
     parent: &Path,
     specifier: &str,
@@ -45,36 +44,31 @@ pub fn resolve<F: Folder, L: Ledger>(
 {
     steps.tick();
     lookup.trail.begin();
-    match specifier_url(alloc, lookup, parent, specifier, conditions) {
+    match specifier_url(lookup, parent, specifier, conditions) {
         Err(fault) => Err(fault),
-        Ok(url) => found_at(alloc, lookup, &url),
+        Ok(url) => found_at(lookup, &url),
     }
 }
 
 /// The module at a URL, with the paths of the question.
-fn found_at<F: Folder>(
-    alloc: Global,
-    lookup: &mut Lookup<'_, F>,
-    url: &FileUrl,
-) -> Result<Found, NodeFault>
+fn found_at<F: Folder>(lookup: &mut Lookup<'_, F>, url: &FileUrl) -> Result<Found, NodeFault>
     ensures answered { Answered (state_of F.state lookup.old) (spec.judged url.now)
         (responded module_of result) (state_of F.state lookup.new) }
     ensures footprint { IfOk result (λ found. found.footprint ≡ lookup.new.trail.now.question) }
     ensures same { IsSameLookup lookup.old lookup.new }
 {
-    match judged(alloc, lookup, url) {
+    match judged(lookup, url) {
         Err(fault) => Err(fault),
         Ok((path, suffix)) => Ok(Found {
             path,
             suffix,
-            footprint: copy_paths(alloc, lookup.trail.question())?,
+            footprint: copy_paths(lookup.alloc, lookup.trail.question())?,
         }),
     }
 }
 
 /// The URL of a specifier.
 fn specifier_url<F: Folder>(
-    alloc: Global,
     lookup: &mut Lookup<'_, F>,
     parent: &Path,
     specifier: &str,
@@ -85,16 +79,15 @@ fn specifier_url<F: Folder>(
         (responded itself result) (state_of F.state lookup.new) }
     ensures same { IsSameLookup lookup.old lookup.new }
 {
-    match scheme_of(alloc, specifier)? {
+    match scheme_of(lookup.alloc, specifier)? {
         Scheme::Node => Err(NodeFault::Refused(Cause::Builtin)),
         Scheme::Other => Err(NodeFault::Refused(Cause::ExternalUrl)),
-        Scheme::NotUrl => no_url(alloc, lookup, parent, specifier, conditions),
+        Scheme::NotUrl => no_url(lookup, parent, specifier, conditions),
     }
 }
 
 /// The URL of a specifier that isn't one itself.
 fn no_url<F: Folder>(
-    alloc: Global,
     lookup: &mut Lookup<'_, F>,
     parent: &Path,
     specifier: &str,
@@ -106,13 +99,13 @@ fn no_url<F: Folder>(
     ensures same { IsSameLookup lookup.old lookup.new }
 {
     if is_relative(specifier) {
-        return relative_url(alloc, parent, specifier);
+        return relative_url(lookup.alloc, parent, specifier);
     }
-    let from = folder_of(alloc, parent)?;
+    let from = folder_of(lookup.alloc, parent)?;
     if begins(specifier, "#") {
-        imports_resolve(alloc, lookup, &from, specifier, conditions)
+        imports_resolve(lookup, &from, specifier, conditions)
     } else {
-        package_resolve(alloc, lookup, &from, specifier, conditions)
+        package_resolve(lookup, &from, specifier, conditions)
     }
 }
 

@@ -36,7 +36,6 @@ static INDEX_FILES: [&str; 3] = ["index.js", "index.json", "index.node"];
 
 /// The URL of the main file of the package in a folder, by the `main` of its record.
 pub fn main_file<F: Folder>(
-    alloc: Global,
     lookup: &mut Lookup<'_, F>,
     package_folder: &Path,
     main: Option<&str>,
@@ -46,16 +45,15 @@ pub fn main_file<F: Folder>(
         (responded itself result) (state_of F.state lookup.new) }
     ensures same { IsSameLookup lookup.old lookup.new }
 {
-    let url = folder_url(alloc, package_folder)?;
+    let url = folder_url(lookup.alloc, package_folder)?;
     match main {
-        None => index_file(alloc, lookup, &url),
-        Some(main) => named_file(alloc, lookup, &url, main),
+        None => index_file(lookup, &url),
+        Some(main) => named_file(lookup, &url, main),
     }
 }
 
 /// The URL of the file that `main` names in the folder with this URL, or of the index file.
 fn named_file<F: Folder>(
-    alloc: Global,
     lookup: &mut Lookup<'_, F>,
     package_url: &FileUrl,
     main: &str,
@@ -65,16 +63,15 @@ fn named_file<F: Folder>(
         (responded itself result) (state_of F.state lookup.new) }
     ensures same { IsSameLookup lookup.old lookup.new }
 {
-    match first_served(alloc, lookup, package_url, main, &MAIN_ENDS) {
+    match first_served(lookup, package_url, main, &MAIN_ENDS) {
         Err(fault) => Err(behind(fault)),
         Ok(Some(found)) => Ok(found),
-        Ok(None) => index_file(alloc, lookup, package_url),
+        Ok(None) => index_file(lookup, package_url),
     }
 }
 
 /// The URL of the index file in the folder with this URL.
 fn index_file<F: Folder>(
-    alloc: Global,
     lookup: &mut Lookup<'_, F>,
     package_url: &FileUrl,
 ) -> Result<FileUrl, NodeFault>
@@ -83,7 +80,7 @@ fn index_file<F: Folder>(
         (responded itself result) (state_of F.state lookup.new) }
     ensures same { IsSameLookup lookup.old lookup.new }
 {
-    match first_served(alloc, lookup, package_url, "", &INDEX_FILES) {
+    match first_served(lookup, package_url, "", &INDEX_FILES) {
         Err(fault) => Err(behind(fault)),
         Ok(Some(found)) => Ok(found),
         Ok(None) => Err(NodeFault::Refused(Cause::NotFound)),
@@ -92,7 +89,6 @@ fn index_file<F: Folder>(
 
 /// The URL of the first file of these that is there, each named by a text and one of these ends behind it.
 fn first_served<F: Folder>(
-    alloc: Global,
     lookup: &mut Lookup<'_, F>,
     package_url: &FileUrl,
     front: &str,
@@ -106,17 +102,16 @@ fn first_served<F: Folder>(
 {
     match ends.split_first() {
         None => Ok(None),
-        Some((end, more)) => match served(alloc, lookup, package_url, front, end) {
+        Some((end, more)) => match served(lookup, package_url, front, end) {
             Err(fault) => Err(fault),
             Ok(Some(found)) => Ok(Some(found)),
-            Ok(None) => first_served(alloc, lookup, package_url, front, more),
+            Ok(None) => first_served(lookup, package_url, front, more),
         },
     }
 }
 
 /// The URL of the file that a text with this end names, if it is there.
 fn served<F: Folder>(
-    alloc: Global,
     lookup: &mut Lookup<'_, F>,
     package_url: &FileUrl,
     front: &str,
@@ -128,10 +123,10 @@ fn served<F: Folder>(
         (looked itself result) (state_of F.state lookup.new) }
     ensures same { IsSameLookup lookup.old lookup.new }
 {
-    let text = relative_text(alloc, front, end)?;
-    match join(alloc, package_url, text.as_str())? {
+    let text = relative_text(lookup.alloc, front, end)?;
+    match join(lookup.alloc, package_url, text.as_str())? {
         None => Ok(None),
-        Some(url) => match serves(alloc, lookup, &url) {
+        Some(url) => match serves(lookup, &url) {
             Err(fault) => Err(fault),
             Ok(true) => Ok(Some(url)),
             Ok(false) => Ok(None),

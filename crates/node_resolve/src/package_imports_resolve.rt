@@ -21,13 +21,11 @@ use node_spec::Cause;
 use ordered_json::{Members, Value};
 use package_lookup::{Lookup, record_under, scope_of};
 use package_record::Subpaths;
-use std::alloc::Global;
 use tree_model::{Folder, Path};
 use web_url::FileUrl;
 
 /// The URL that the package scope of a folder gives for a specifier that begins with `#`.
 pub fn imports_resolve<F: Folder>(
-    alloc: Global,
     lookup: &mut Lookup<'_, F>,
     from: &Path,
     text: &str,
@@ -41,10 +39,10 @@ pub fn imports_resolve<F: Folder>(
     if is_refused(text) {
         return Err(NodeFault::Refused(Cause::InvalidSpecifier));
     }
-    match scope_of(alloc, lookup, from) {
+    match scope_of(lookup, from) {
         Err(fault) => Err(behind(fault)),
         Ok(None) => Err(NodeFault::Refused(Cause::ImportNotDefined)),
-        Ok(Some(scope)) => imported_at(alloc, lookup, &scope, text, conditions),
+        Ok(Some(scope)) => imported_at(lookup, &scope, text, conditions),
     }
 }
 
@@ -57,7 +55,6 @@ fn is_refused(text: &str) -> bool
 }
 
 fn imported_at<F: Folder>(
-    alloc: Global,
     lookup: &mut Lookup<'_, F>,
     scope: &Path,
     text: &str,
@@ -68,16 +65,15 @@ fn imported_at<F: Folder>(
         (responded itself result) (state_of F.state lookup.new) }
     ensures same { IsSameLookup lookup.old lookup.new }
 {
-    match record_under(alloc, lookup, scope, conditions) {
+    match record_under(lookup, scope, conditions) {
         Err(fault) => Err(behind(fault)),
         Ok(None) => Err(NodeFault::Refused(Cause::ImportNotDefined)),
-        Ok(Some(of_scope)) => imported(alloc, lookup, scope, text, &of_scope.imports, conditions),
+        Ok(Some(of_scope)) => imported(lookup, scope, text, &of_scope.imports, conditions),
     }
 }
 
 /// The URL by the `imports` of the package at a folder.
 fn imported<F: Folder>(
-    alloc: Global,
     lookup: &mut Lookup<'_, F>,
     scope: &Path,
     text: &str,
@@ -91,9 +87,7 @@ fn imported<F: Folder>(
     ensures same { IsSameLookup lookup.old lookup.new }
 {
     match &imports.value {
-        Value::Object(members) => {
-            import_at(alloc, lookup, scope, text, imports, members, conditions)
-        }
+        Value::Object(members) => { import_at(lookup, scope, text, imports, members, conditions) }
         Value::Null => Err(NodeFault::Refused(Cause::ImportNotDefined)),
         Value::Bool(_) => Err(NodeFault::Refused(Cause::ImportNotDefined)),
         Value::Number(_) => Err(NodeFault::Refused(Cause::ImportNotDefined)),
@@ -104,7 +98,6 @@ fn imported<F: Folder>(
 
 /// The URL of the target of the key that is taken.
 fn import_at<F: Folder>(
-    alloc: Global,
     lookup: &mut Lookup<'_, F>,
     scope: &Path,
     text: &str,
@@ -119,11 +112,9 @@ fn import_at<F: Folder>(
         (responded itself result) (state_of F.state lookup.new) }
     ensures same { IsSameLookup lookup.old lookup.new }
 {
-    match target_of(alloc, imports, members, text, conditions) {
+    match target_of(lookup.alloc, imports, members, text, conditions) {
         Err(_) => Err(NodeFault::Memory),
         Ok(None) => Err(NodeFault::Refused(Cause::ImportNotDefined)),
-        Ok(Some((target, star))) => {
-            import_target(alloc, lookup, scope, target, star, conditions)
-        }
+        Ok(Some((target, star))) => import_target(lookup, scope, target, star, conditions),
     }
 }

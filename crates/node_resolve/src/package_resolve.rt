@@ -23,13 +23,11 @@ use condition_match::Conditions;
 use node_spec::Cause;
 use package_lookup::{Lookup, find_package, record_under};
 use package_record::Package;
-use std::alloc::Global;
 use tree_model::{Folder, Path};
 use web_url::FileUrl;
 
 /// The URL of a bare specifier, for a module in a folder.
 pub fn package_resolve<F: Folder>(
-    alloc: Global,
     lookup: &mut Lookup<'_, F>,
     from: &Path,
     text: &str,
@@ -49,15 +47,14 @@ pub fn package_resolve<F: Folder>(
     if ends_in_slash(text) {
         return Err(NodeFault::Refused(Cause::InvalidSpecifier));
     }
-    match Subpath::of(alloc, text)? {
+    match Subpath::of(lookup.alloc, text)? {
         None => Err(NodeFault::Refused(Cause::InvalidSpecifier)),
-        Some(asked) => resolve_name(alloc, lookup, from, &asked, conditions),
+        Some(asked) => resolve_name(lookup, from, &asked, conditions),
     }
 }
 
 /// The URL of a package's name with a subpath: the package itself goes before every `node_modules`.
 fn resolve_name<F: Folder>(
-    alloc: Global,
     lookup: &mut Lookup<'_, F>,
     from: &Path,
     asked: &Subpath<'_>,
@@ -72,16 +69,15 @@ fn resolve_name<F: Folder>(
     if !is_package_name(asked.name) {
         return Err(NodeFault::Refused(Cause::InvalidSpecifier));
     }
-    match package_self_resolve(alloc, lookup, from, asked, conditions) {
+    match package_self_resolve(lookup, from, asked, conditions) {
         Err(fault) => Err(fault),
         Ok(Some(url)) => Ok(url),
-        Ok(None) => resolve_in_modules(alloc, lookup, from, asked, conditions),
+        Ok(None) => resolve_in_modules(lookup, from, asked, conditions),
     }
 }
 
 /// The same where the package isn't the one that asks.
 fn resolve_in_modules<F: Folder>(
-    alloc: Global,
     lookup: &mut Lookup<'_, F>,
     from: &Path,
     asked: &Subpath<'_>,
@@ -93,11 +89,10 @@ fn resolve_in_modules<F: Folder>(
         (responded itself result) (state_of F.state lookup.new) }
     ensures same { IsSameLookup lookup.old lookup.new }
 {
-    match find_package(alloc, lookup, from, asked.name) {
+    match find_package(lookup, from, asked.name) {
         Err(fault) => Err(behind(fault)),
         Ok(None) => Err(NodeFault::Refused(Cause::NotFound)),
         Ok(Some(package_folder)) => resolve_in_folder(
-            alloc,
             lookup,
             &package_folder,
             asked.subpath.as_str(),
@@ -108,7 +103,6 @@ fn resolve_in_modules<F: Folder>(
 
 /// The URL of a subpath of the package in a folder.
 fn resolve_in_folder<F: Folder>(
-    alloc: Global,
     lookup: &mut Lookup<'_, F>,
     package_folder: &Path,
     subpath: &str,
@@ -120,11 +114,10 @@ fn resolve_in_folder<F: Folder>(
         (responded itself result) (state_of F.state lookup.new) }
     ensures same { IsSameLookup lookup.old lookup.new }
 {
-    match record_under(alloc, lookup, package_folder, conditions) {
+    match record_under(lookup, package_folder, conditions) {
         Err(fault) => Err(behind(fault)),
-        Ok(None) => resolve_file(alloc, lookup, package_folder, subpath, None),
+        Ok(None) => resolve_file(lookup, package_folder, subpath, None),
         Ok(Some(of_package)) => resolve_by_record(
-            alloc,
             lookup,
             package_folder,
             subpath,
@@ -135,7 +128,6 @@ fn resolve_in_folder<F: Folder>(
 }
 
 fn resolve_by_record<F: Folder>(
-    alloc: Global,
     lookup: &mut Lookup<'_, F>,
     package_folder: &Path,
     subpath: &str,
@@ -151,7 +143,7 @@ fn resolve_by_record<F: Folder>(
 {
     if !is_null(&of_package.exports.value) {
         return exported(
-            alloc,
+            lookup.alloc,
             package_folder,
             subpath,
             &of_package.exports,
@@ -159,14 +151,13 @@ fn resolve_by_record<F: Folder>(
         );
     }
     match &of_package.main {
-        None => resolve_file(alloc, lookup, package_folder, subpath, None),
-        Some(main) => resolve_file(alloc, lookup, package_folder, subpath, Some(main.as_str())),
+        None => resolve_file(lookup, package_folder, subpath, None),
+        Some(main) => resolve_file(lookup, package_folder, subpath, Some(main.as_str())),
     }
 }
 
 /// The URL of a subpath in a package without exports.
 fn resolve_file<F: Folder>(
-    alloc: Global,
     lookup: &mut Lookup<'_, F>,
     package_folder: &Path,
     subpath: &str,
@@ -179,9 +170,9 @@ fn resolve_file<F: Folder>(
     ensures same { IsSameLookup lookup.old lookup.new }
 {
     if same(subpath, ".") {
-        return main_file(alloc, lookup, package_folder, main);
+        return main_file(lookup, package_folder, main);
     }
-    let base = folder_url(alloc, package_folder)?;
-    let found = join(alloc, &base, subpath)?;
+    let base = folder_url(lookup.alloc, package_folder)?;
+    let found = join(lookup.alloc, &base, subpath)?;
     inside(&base, found)
 }

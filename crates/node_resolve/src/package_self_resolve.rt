@@ -25,7 +25,6 @@ use web_url::FileUrl;
 
 /// The URL that the package scope of a folder gives for its own name, where it has that name and exports.
 pub fn package_self_resolve<F: Folder>(
-    alloc: Global,
     lookup: &mut Lookup<'_, F>,
     from: &Path,
     asked: &Subpath<'_>,
@@ -36,15 +35,14 @@ pub fn package_self_resolve<F: Folder>(
         (responded itself result) (state_of F.state lookup.new) }
     ensures same { IsSameLookup lookup.old lookup.new }
 {
-    match scope_of(alloc, lookup, from) {
+    match scope_of(lookup, from) {
         Err(fault) => Err(behind(fault)),
         Ok(None) => Ok(None),
-        Ok(Some(scope)) => self_at(alloc, lookup, &scope, asked, conditions),
+        Ok(Some(scope)) => self_at(lookup, &scope, asked, conditions),
     }
 }
 
 fn self_at<F: Folder>(
-    alloc: Global,
     lookup: &mut Lookup<'_, F>,
     scope: &Path,
     asked: &Subpath<'_>,
@@ -55,10 +53,10 @@ fn self_at<F: Folder>(
         (responded itself result) (state_of F.state lookup.new) }
     ensures same { IsSameLookup lookup.old lookup.new }
 {
-    match record_under(alloc, lookup, scope, conditions) {
+    match record_under(lookup, scope, conditions) {
         Err(fault) => Err(behind(fault)),
         Ok(None) => Ok(None),
-        Ok(Some(of_scope)) => self_in(alloc, scope, asked, &of_scope, conditions),
+        Ok(Some(of_scope)) => self_in(lookup.alloc, scope, asked, &of_scope, conditions),
     }
 }
 

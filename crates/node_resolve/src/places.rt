@@ -17,13 +17,11 @@ use crate::NodeFault;
 use crate::fault::behind;
 use node_spec::Cause;
 use package_lookup::{Lookup, LookupFault, Seen};
-use std::alloc::Global;
 use tree_model::{Folder, Path};
 use web_url::{FileUrl, Place, Suffix, place_of};
 
 /// The module at a URL (Node.js, ECMAScript modules: ESM_RESOLVE, "If resolved is a "file:" URL").
 pub fn judged<F: Folder>(
-    alloc: Global,
     lookup: &mut Lookup<'_, F>,
     url: &FileUrl,
 ) -> Result<(Path, Suffix), NodeFault>
@@ -31,12 +29,11 @@ pub fn judged<F: Folder>(
         (responded module_at result) (state_of F.state lookup.new) }
     ensures same { IsSameLookup lookup.old lookup.new }
 {
-    let place = place_of(alloc, url)?;
-    judged_at(alloc, lookup, place)
+    let place = place_of(lookup.alloc, url)?;
+    judged_at(lookup, place)
 }
 
 fn judged_at<F: Folder>(
-    alloc: Global,
     lookup: &mut Lookup<'_, F>,
     place: Place,
 ) -> Result<(Path, Suffix), NodeFault>
@@ -56,7 +53,10 @@ fn judged_at<F: Folder>(
     }
     match path {
         None => Err(NodeFault::Refused(Cause::NotFound)),
-        Some(path) => match lookup.known.look(alloc, lookup.folder, &path, lookup.trail) {
+        Some(path) => match lookup
+            .known
+            .look(lookup.alloc, lookup.folder, &path, lookup.trail)
+        {
             Err(fault) => Err(behind(fault)),
             Ok(seen) => module_of(path, folder_only, suffix, seen),
         },
@@ -86,25 +86,17 @@ fn module_of(
 }
 
 /// Whether a file stands at a URL whose path doesn't end in `/`.
-pub fn serves<F: Folder>(
-    alloc: Global,
-    lookup: &mut Lookup<'_, F>,
-    url: &FileUrl,
-) -> Result<bool, LookupFault>
+pub fn serves<F: Folder>(lookup: &mut Lookup<'_, F>, url: &FileUrl) -> Result<bool, LookupFault>
     ensures answered { Answered (state_of F.state lookup.old)
         (and_then (look_at_url url.now) (λ found. answered (serves url.now found)))
         (looked itself result) (state_of F.state lookup.new) }
     ensures same { IsSameLookup lookup.old lookup.new }
 {
-    let place = place_of(alloc, url)?;
-    serves_at(alloc, lookup, place)
+    let place = place_of(lookup.alloc, url)?;
+    serves_at(lookup, place)
 }
 
-fn serves_at<F: Folder>(
-    alloc: Global,
-    lookup: &mut Lookup<'_, F>,
-    place: Place,
-) -> Result<bool, LookupFault>
+fn serves_at<F: Folder>(lookup: &mut Lookup<'_, F>, place: Place) -> Result<bool, LookupFault>
     ensures answered { (url : List ℕ) → IsPlace url place.path place.folder_only place.escaped place.suffix
         → Answered (state_of F.state lookup.old)
         (and_then (look_at_url url) (λ found. answered (serves url found)))
@@ -118,7 +110,10 @@ fn serves_at<F: Folder>(
     } = place;
     match path {
         None => Ok(false),
-        Some(path) => match lookup.known.look(alloc, lookup.folder, &path, lookup.trail) {
+        Some(path) => match lookup
+            .known
+            .look(lookup.alloc, lookup.folder, &path, lookup.trail)
+        {
             Err(fault) => Err(fault),
             Ok(seen) => Ok(is_served(&seen, folder_only)),
         },

@@ -28,11 +28,7 @@ pub enum Format {
 
 /// The format of a file (Node.js, ECMAScript modules: ESM_FILE_FORMAT). It begins a question; where the text decides,
 /// the caller goes on in that question with a look at the file.
-pub fn format_of<F: Folder>(
-    alloc: Global,
-    lookup: &mut Lookup<'_, F>,
-    path: &Path,
-) -> Result<Format, LookupFault>
+pub fn format_of<F: Folder>(lookup: &mut Lookup<'_, F>, path: &Path) -> Result<Format, LookupFault>
     ensures answered { Answered (begun_of F.state lookup.old) (file_format path.now)
         (formatted result) (state_of F.state lookup.new) }
     ensures same { IsSameLookup lookup.old lookup.new }
@@ -40,7 +36,7 @@ pub fn format_of<F: Folder>(
     lookup.trail.begin();
     match format_by_ending(path) {
         Some(format) => Ok(format),
-        None => format_by_scope(alloc, lookup, path),
+        None => format_by_scope(lookup, path),
     }
 }
 
@@ -72,7 +68,6 @@ fn has_ending(path: &Path, ending: &[u8]) -> bool
 
 // What the package scope of a file says of its format.
 fn format_by_scope<F: Folder>(
-    alloc: Global,
     lookup: &mut Lookup<'_, F>,
     path: &Path,
 ) -> Result<Format, LookupFault>
@@ -81,11 +76,11 @@ fn format_by_scope<F: Folder>(
         (formatted result) (state_of F.state lookup.new) }
     ensures same { IsSameLookup lookup.old lookup.new }
 {
-    let from = folder_of(alloc, path)?;
-    match scope_of(alloc, lookup, &from) {
+    let from = folder_of(lookup.alloc, path)?;
+    match scope_of(lookup, &from) {
         Err(fault) => Err(fault),
         Ok(None) => Ok(Format::Detect),
-        Ok(Some(scope)) => format_in(alloc, lookup, &scope),
+        Ok(Some(scope)) => format_in(lookup, &scope),
     }
 }
 
@@ -99,16 +94,12 @@ pub fn folder_of(alloc: Global, path: &Path) -> Result<Path, Memory>
     }
 }
 
-fn format_in<F: Folder>(
-    alloc: Global,
-    lookup: &mut Lookup<'_, F>,
-    scope: &Path,
-) -> Result<Format, LookupFault>
+fn format_in<F: Folder>(lookup: &mut Lookup<'_, F>, scope: &Path) -> Result<Format, LookupFault>
     ensures answered { Answered (state_of F.state lookup.old) (format_in (Some scope.now))
         (formatted result) (state_of F.state lookup.new) }
     ensures same { IsSameLookup lookup.old lookup.new }
 {
-    match record_of(alloc, lookup, scope) {
+    match record_of(lookup, scope) {
         Ok(None) => Ok(Format::Detect),
         Ok(Some(package)) => Ok(format_of_kind(package.kind)),
         Err(fault) => without_record(fault),

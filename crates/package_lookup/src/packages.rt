@@ -29,7 +29,6 @@ use tree_spec::LimitName;
 
 /// The package scope of a folder (Node.js, ECMAScript modules: LOOKUP_PACKAGE_SCOPE).
 pub fn scope_of<F: Folder>(
-    alloc: Global,
     lookup: &mut Lookup<'_, F>,
     from: &Path,
 ) -> Result<Option<Path>, LookupFault>
@@ -37,17 +36,17 @@ pub fn scope_of<F: Folder>(
         (state_of F.state lookup.new) }
     ensures same { IsSameLookup lookup.old lookup.new }
 {
-    let mut at = from.copy(alloc)?;
+    let mut at = from.copy(lookup.alloc)?;
     'up: loop {
         if is_node_modules(&at) {
             return Ok(None);
         }
-        match holds_record(alloc, lookup, &at) {
+        match holds_record(lookup, &at) {
             Err(fault) => return Err(fault),
             Ok(true) => return Ok(Some(at)),
             Ok(false) => {}
         }
-        match at.parent(alloc)? {
+        match at.parent(lookup.alloc)? {
             None => return Ok(None),
             Some(parent) => at = parent,
         }
@@ -66,18 +65,17 @@ fn is_node_modules(folder: &Path) -> bool
 }
 
 // Whether a folder holds a file package.json.
-fn holds_record<F: Folder>(
-    alloc: Global,
-    lookup: &mut Lookup<'_, F>,
-    at: &Path,
-) -> Result<bool, LookupFault>
+fn holds_record<F: Folder>(lookup: &mut Lookup<'_, F>, at: &Path) -> Result<bool, LookupFault>
     ensures answered { Answered (state_of F.state lookup.old) (is_accepted scopes at.now)
         (looked itself result) (state_of F.state lookup.new) }
     ensures same { IsSameLookup lookup.old lookup.new }
 {
-    match at.join(alloc, "package.json")? {
+    match at.join(lookup.alloc, "package.json")? {
         None => Ok(false),
-        Some(path) => match lookup.known.look(alloc, lookup.folder, &path, lookup.trail) {
+        Some(path) => match lookup
+            .known
+            .look(lookup.alloc, lookup.folder, &path, lookup.trail)
+        {
             Err(fault) => Err(fault),
             Ok(seen) => Ok(is_file(&seen)),
         },
@@ -96,7 +94,6 @@ fn is_file(seen: &Seen) -> bool
 
 /// The folder of a package, for a module in a folder (Node.js, ECMAScript modules: PACKAGE_RESOLVE).
 pub fn find_package<F: Folder>(
-    alloc: Global,
     lookup: &mut Lookup<'_, F>,
     from: &Path,
     name: &str,
@@ -105,15 +102,15 @@ pub fn find_package<F: Folder>(
         (looked itself result) (state_of F.state lookup.new) }
     ensures same { IsSameLookup lookup.old lookup.new }
 {
-    let place = place_of(alloc, name)?;
-    let mut at = from.copy(alloc)?;
+    let place = place_of(lookup.alloc, name)?;
+    let mut at = from.copy(lookup.alloc)?;
     'up: loop {
-        match package_in(alloc, lookup, &at, place.as_str()) {
+        match package_in(lookup, &at, place.as_str()) {
             Err(fault) => return Err(fault),
             Ok(Some(package)) => return Ok(Some(package)),
             Ok(None) => {}
         }
-        match at.parent(alloc)? {
+        match at.parent(lookup.alloc)? {
             None => return Ok(None),
             Some(parent) => at = parent,
         }
@@ -122,7 +119,6 @@ pub fn find_package<F: Folder>(
 
 /// The record of a folder (Node.js, ECMAScript modules: READ_PACKAGE_JSON); none where it has no file package.json.
 pub fn record_of<F: Folder>(
-    alloc: Global,
     lookup: &mut Lookup<'_, F>,
     at: &Path,
 ) -> Result<Option<Rc<Package>>, LookupFault>
@@ -131,12 +127,11 @@ pub fn record_of<F: Folder>(
     ensures named { AllNamedApart result }
     ensures same { IsSameLookup lookup.old lookup.new }
 {
-    record_by(alloc, lookup, at, None)
+    record_by(lookup, at, None)
 }
 
 /// The same, where its targets will be asked for under these conditions.
 pub fn record_under<F: Folder>(
-    alloc: Global,
     lookup: &mut Lookup<'_, F>,
     at: &Path,
     conditions: &Conditions,
@@ -146,11 +141,10 @@ pub fn record_under<F: Folder>(
     ensures named { AllNamedApart result }
     ensures same { IsSameLookup lookup.old lookup.new }
 {
-    record_by(alloc, lookup, at, Some(conditions))
+    record_by(lookup, at, Some(conditions))
 }
 
 fn record_by<F: Folder>(
-    alloc: Global,
     lookup: &mut Lookup<'_, F>,
     at: &Path,
     conditions: Option<&Conditions>,
@@ -160,15 +154,15 @@ fn record_by<F: Folder>(
     ensures named { AllNamedApart result }
     ensures same { IsSameLookup lookup.old lookup.new }
 {
-    match at.join(alloc, "package.json")? {
+    match at.join(lookup.alloc, "package.json")? {
         None => Ok(None),
         Some(path) => match lookup
             .known
-            .sight(alloc, lookup.folder, &path, lookup.trail)
+            .sight(lookup.alloc, lookup.folder, &path, lookup.trail)
         {
             Err(fault) => Err(fault),
             Ok((seen, reading)) => {
-                recorded(alloc, lookup.known, path, seen, reading, conditions)
+                recorded(lookup.alloc, lookup.known, path, seen, reading, conditions)
             }
         },
     }
@@ -285,7 +279,6 @@ fn place_of(alloc: Global, name: &str) -> Result<String, Memory>
 
 // The package that stands at a place in a folder.
 fn package_in<F: Folder>(
-    alloc: Global,
     lookup: &mut Lookup<'_, F>,
     at: &Path,
     place: &str,
@@ -296,9 +289,12 @@ fn package_in<F: Folder>(
     ensures place { IfOk result (λ found. IfSome found (λ path. path ≡ joined at.now place.now)) }
     ensures same { IsSameLookup lookup.old lookup.new }
 {
-    match at.join(alloc, place)? {
+    match at.join(lookup.alloc, place)? {
         None => Ok(None),
-        Some(path) => match lookup.known.look(alloc, lookup.folder, &path, lookup.trail) {
+        Some(path) => match lookup
+            .known
+            .look(lookup.alloc, lookup.folder, &path, lookup.trail)
+        {
             Err(fault) => Err(fault),
             Ok(Seen::Folder) => Ok(Some(path)),
             Ok(Seen::Absent) => Ok(None),

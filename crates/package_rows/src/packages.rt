@@ -75,7 +75,7 @@ impl<L: Ledger> Packages<L> {
             return said.push("no path");
         };
         let mut lookup = self.site.lookup();
-        push_format(&format_of(alloc, &mut lookup, &path), said);
+        push_format(&format_of(&mut lookup, &path), said);
     }
 
     // The package scope of the folder at a path.
@@ -84,7 +84,7 @@ impl<L: Ledger> Packages<L> {
             return said.push("no path");
         };
         let mut lookup = self.site.lookup();
-        push_scope(&scope_of(alloc, &mut lookup, &path), said);
+        push_scope(&scope_of(&mut lookup, &path), said);
     }
 
     // What the file that asks gets for a specifier, or the paths that are looked at for it.
@@ -98,7 +98,6 @@ impl<L: Ledger> Packages<L> {
     ) {
         let mut lookup = self.site.lookup();
         let answer = resolve(
-            alloc,
             &mut lookup,
             &asker.from,
             specifier,

@@ -25,6 +25,7 @@ impl Site {
     /// The tree, what is known of it and the trail, to be asked by.
     pub fn lookup(&mut self) -> Lookup<'_, MemFolder> {
         Lookup {
+            alloc,
             known: &mut self.known,
             folder: &mut self.folder,
             trail: &mut self.trail,

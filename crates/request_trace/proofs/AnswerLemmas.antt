@@ -1,8 +1,10 @@
 -- A question of a walk that is answered by looks, and the walk over these answers.
 --     always_ready         an answerer that needs nothing to be ready
 --     kind_of, found_of    why a module has no source, and that one that it has is right
+--     step_for_each        a step for each question, where all are fresh
+--     nothing_to_keep, none_to_keep      where nothing needs to be kept
 --     met_by               a question
---     referring            the references of a look-up that refers to what it referred to
+--     referring            what stays of a look-up that refers to what it referred to
 --     traces_by            the walk
 --     traces_moved         the same beside another name for the state
 --     traces_nothing       there is no memory for a walk
@@ -11,10 +13,10 @@
 --     takes_moved          the steps beside another name for what they end with
 --     named_limit, limit_ends, look_ends      a limit that ends a walk
 use Rattle.std.proofs.Common.{◌≡◌, ◌≤◌, ◌+◌, ℕ, List, length, Option, Some, None, Result, Ok, Err, IfSome, refl, sym, ap, ◌∙◌, subst, arith}
-use Rattle.std.specs.Prelude.{◌≢◌, [], ◌∷◌, Contains, IfErr, IfOk, MatchResult, OnOk, ⊤}
-use Rattle.std.proofs.lemmas.List.Elements.{Contains-append_left}
+use Rattle.std.specs.Prelude.{◌≢◌, [], ◌∷◌, filter, All, Contains, IfErr, IfOk, MatchResult, OnOk, ⊤}
+use Rattle.std.proofs.lemmas.List.Elements.{Contains-append_left, All-cons, All-nil}
 use Rattle.asking_spec.specs.Askings.{answered, ask}
-use Rattle.asking_spec.specs.Evaluation.{Ended, ends, then_ended, evaluated}
+use Rattle.asking_spec.specs.Evaluation.{Ended, ends, stopped, then_ended, evaluated}
 use Rattle.tree_spec.specs.declared.LimitName.{LimitName}
 use Rattle.tree_spec.specs.Limits.{limit_number}
 use Rattle.tree_spec.specs.declared.LimitName.TheVariants.{File, Bytes, Looks, Modules, ModuleRequests, Requests, Specifier, Entries, Brackets, Depth, Session, Map, Choices}
@@ -48,7 +50,8 @@ use Rattle.trace_walk.specs.Shown.{traced_of}
 use Rattle.trace_walk.specs.declared.tables.Tables.{Tables}
 use Rattle.package_lookup.specs.Lookups.{IsSameLookup}
 use Rattle.package_lookup.specs.declared.lookup.Lookup.{Lookup}
-use Rattle.request_trace.specs.Answering.{result_by, told_by, ToldBy, answers_of, references_of}
+use Rattle.request_trace.specs.Answering.{result_by, Freshness, Keeping, Stays, all_fresh, all_kept, told_by, ToldBy, TakesStep, answers_of}
+use Rattle.request_trace.specs.Answering.{stays_of, KeepsOn, KeepsAnswer}
 use Rattle.request_trace.specs.Tracing.{known_of, IsOfFootprint, TakesSteps, Traces}
 use Rattle.request_trace.proofs.WalkLooks.{reached_to_end, walk_looks}
 
@@ -65,8 +68,9 @@ found_of (Ok source) P is holds = is holds
 found_of (Err fault) P is holds = tt
 
 pub referring : {F : Type 0} (old new : Lookup F) (steps : ℕ) → IsSameLookup old new
-    → references_of new steps ≡ references_of old steps
-referring old new steps same = (λ i. same.folder i ∷ same.known i ∷ steps ∷ same.trail i ∷ [])
+    → stays_of new steps ≡ stays_of old steps
+referring old new steps same =
+    (λ i. record { references = same.folder i ∷ same.known i ∷ steps ∷ same.trail i ∷ []; names = [] })
 
 abbrev Answering : Type 0
 Answering = Told Trail Question Answer
@@ -98,10 +102,31 @@ read_by (fails not_read) result is e = refl
 read_by (fails no_memory) result is e = absurd (cc)
 read_by (fails never) result is e = absurd (cc)
 
-abbrev afresh : State → State
+abbrev pub afresh : State → State
 afresh before = state before.folder before.known (begun before.trail)
 
-module _ (references : List ℕ) (taken spent : ℕ) (before after : State) (question : Question) (response : Response (Answer question))
+-- a question by itself is all that is asked
+one_asked : {X S : Type 0} (end : Ended X Trail S) (question : Question)
+    → question ∷ asked_then end (λ answer after. []) ≡ question ∷ []
+one_asked (ends answer after) question = refl
+one_asked (stopped stop after) question = refl
+
+-- whatever is fresh: at most one step, and that only for a fresh one
+pub step_for_each : (before : State) (question : Question) (taken spent : ℕ) → spent ≤ taken + 1
+    → TakesStep all_fresh before question taken spent
+step_for_each before question taken spent few =
+    if_all before.folder.holds (λ tree sights sees. omega (arith, few))
+
+-- whatever is kept, where nothing needs to be
+pub nothing_to_keep : (before : State) → KeepsOn all_kept all_kept before
+nothing_to_keep before = if_all before.folder.holds (λ tree sights sees question kept. tt)
+
+pub none_to_keep : {X : Type 0} (before : State) (question : Question) (result : Result X TraceFault)
+    → KeepsAnswer all_kept before question result
+none_to_keep before question (Ok value) = if_all before.folder.holds (λ tree sights sees. tt)
+none_to_keep before question (Err fault) = if_all before.folder.holds (λ tree sights sees. tt)
+
+module _ (is_fresh : Freshness) (keeping : Keeping) (stays : Stays) (taken spent : ℕ) (before after : State) (question : Question) (response : Response (Answer question))
     (result : Result (Answer question) TraceFault) where
   told_here : Answered (afresh before) (put question) response after → (by : Tree)
       → before.folder.holds ≡ Some by → Tells by (afresh before) (put question) response after
@@ -109,7 +134,7 @@ module _ (references : List ℕ) (taken spent : ℕ) (before after : State) (que
       subst (λ h. IfSome h (λ tree. Tells tree (afresh before) (put question) response after)) holds a.tells
 
   comes_told : result ≡ result_by response → Answered (afresh before) (put question) response after
-      → (told : Answering) → ToldBy before.folder before.known told → IsTold result
+      → (told : Answering) → ToldBy is_fresh before.folder before.known told → IsTold result
       → Comes told.answers before.trail (fine (ask question answered)) result after.trail
   comes_told is a told by is_told =
       (let tells = told_here a by.tree by.holds in
@@ -119,7 +144,7 @@ module _ (references : List ℕ) (taken spent : ℕ) (before after : State) (que
       (record { is = here.0; leaves = here.1 }))
 
   told_still : Answered (afresh before) (put question) response after → (told : Answering)
-      → ToldBy before.folder before.known told → ToldBy after.folder after.known told
+      → ToldBy is_fresh before.folder before.known told → ToldBy is_fresh after.folder after.known told
   told_still a told by = record {
     tree = by.tree;
     sights = by.sights;
@@ -130,7 +155,7 @@ module _ (references : List ℕ) (taken spent : ℕ) (before after : State) (que
 
   -- a look of the question is one at which the walk's question looks
   asked_by : (path : List ℕ) → IsLookOf (afresh before) (put question) path
-      → IsAskedBy (answers_of references taken before) (fine (ask question answered)) path
+      → IsAskedBy (answers_of is_fresh keeping stays taken before) (fine (ask question answered)) path
   asked_by path is told by =
       let each : (sights : Sights) → Sees by.tree before.known sights
       → IsReached look_limits sights (begun before.trail) (looks sights (put question)) path =
@@ -144,54 +169,102 @@ module _ (references : List ℕ) (taken spent : ℕ) (before after : State) (que
       (asked_then (answers by.sights before.trail question) (λ answer after. [])) path
       (reached_to_end by.sights (begun before.trail) (put question) path (each by.sights by.sees)))
 
-  steps_told : spent ≤ taken + 1 → (told : Answering) → ToldBy before.folder before.known told
+  steps_told : TakesStep is_fresh before question taken spent → (told : Answering)
+      → ToldBy is_fresh before.folder before.known told
       → spent ≤ taken + length (fresh_to_end told before.trail (fine (ask question answered)))
-  steps_told few told by =
+  steps_told takes told by =
+      let each : (sights : Sights) → Sees by.tree before.known sights
+      → spent ≤ taken + length (filter (is_fresh sights) (question ∷ [])) =
+      subst (λ holds. IfSome holds
+      (λ tree. (sights : Sights) → Sees tree before.known sights
+      → spent ≤ taken + length (filter (is_fresh sights) (question ∷ [])))) by.holds takes in
       subst (λ (t : Answering). spent ≤ taken + length (fresh_to_end t before.trail (fine (ask question answered))))
-      (sym by.are) (omega (arith, few))
+      (sym by.are)
+      (subst (λ asked. spent ≤ taken + length (filter (is_fresh by.sights) asked))
+      (sym (one_asked (answers by.sights before.trail question) question)) (each by.sights by.sees))
 
-  pub met_by : (others : List ℕ) → others ≡ references → spent ≤ taken + 1 → result ≡ result_by response
+  stands_so : (told : Answering) (by : ToldBy is_fresh before.folder before.known told) → told.stands ≡ by.sights
+  stands_so told by = ap (λ (t : Answering). t.stands) by.are
+
+  kept_still : (later_keeping : Keeping) → KeepsOn keeping later_keeping before → (told : Answering)
+      → ToldBy is_fresh before.folder before.known told → (other : Question) → keeping told.stands other
+      → later_keeping told.stands other
+  kept_still later_keeping on told by other kept =
+      let each : (sights : Sights) → Sees by.tree before.known sights → (q : Question) → keeping sights q
+      → later_keeping sights q =
+      subst (λ holds. IfSome holds
+      (λ tree. (sights : Sights) → Sees tree before.known sights → (q : Question) → keeping sights q
+      → later_keeping sights q)) by.holds on in
+      subst (λ s. later_keeping s other) (sym (stands_so told by))
+      (each by.sights by.sees other (subst (λ s. keeping s other) (stands_so told by) kept))
+
+  kept_here : (later_keeping : Keeping) → KeepsAnswer later_keeping before question result → (told : Answering)
+      → ToldBy is_fresh before.folder before.known told → (value : Answer question) → result ≡ Ok value
+      → All (later_keeping told.stands) (asked_to_end told.answers before.trail (fine (ask question answered)))
+  kept_here later_keeping here told by value is =
+      let each : (sights : Sights) → Sees by.tree before.known sights
+      → IfOk result (λ answer. later_keeping sights question) =
+      subst (λ holds. IfSome holds
+      (λ tree. (sights : Sights) → Sees tree before.known sights
+      → IfOk result (λ answer. later_keeping sights question))) by.holds here in
+      let own : later_keeping by.sights question =
+      subst (λ r. IfOk r (λ answer. later_keeping by.sights question)) is (each by.sights by.sees) in
+      subst (All (later_keeping told.stands)) (sym (one_asked (told.answers before.trail question) question))
+      (All-cons (later_keeping told.stands) question []
+      (subst (λ s. later_keeping s question) (sym (stands_so told by)) own) (All-nil (later_keeping told.stands)))
+
+  pub met_by : (others : Stays) (later_keeping : Keeping) → others ≡ stays
+      → TakesStep is_fresh before question taken spent → KeepsOn keeping later_keeping before
+      → KeepsAnswer later_keeping before question result → result ≡ result_by response
       → Answered (afresh before) (put question) response after
-      → Met (answers_of references taken before) (fine (ask question answered)) result (answers_of others spent after)
-  met_by others names few is a = record {
+      → Met (answers_of is_fresh keeping stays taken before) (fine (ask question answered)) result
+      (answers_of is_fresh later_keeping others spent after)
+  met_by others later_keeping same takes on here is a = record {
     comes = comes_told is a;
     told = told_still a;
-    keeps = (λ i. record { references = names i; holds = a.folder.tree i; writes = a.folder.writes i });
+    keeps = (λ i. record {
+      references = (same i).references;
+      names = (same i).names;
+      holds = a.folder.tree i;
+      writes = a.folder.writes i;
+    });
     later = a.folder.later;
     cause = λ e. a.folder.cause (read_by response result is e);
     quiet = λ ne. a.folder.quiet (λ e. ne (is ∙ ap result_by e));
-    steps = steps_told few;
+    steps = steps_told takes;
     learns = learns_as before after (response ≡ fails no_memory) (result ≡ Err Memory)
         (IsLookOf (afresh before) (put question))
-        (IsAskedBy (answers_of references taken before) (fine (ask question answered))) (λ e. is ∙ ap result_by e) asked_by
+        (IsAskedBy (answers_of is_fresh keeping stays taken before) (fine (ask question answered))) (λ e. is ∙ ap result_by e) asked_by
         (learns_at (afresh before) after before.trail after.trail (response ≡ fails no_memory)
         (IsLookOf (afresh before) (put question)) (learns_by (afresh before) after (put question) response a));
     covered = λ finished covers. a.covered (λ e. finished (is ∙ ap result_by e)) covers;
+    still_kept = kept_still later_keeping on;
+    asked_kept = kept_here later_keeping here;
   }
 
 -- ---- the walk
 
-is_traced : (told : Option Tree) (references others : List ℕ) (taken spent : ℕ) (config : Config) (before after : State)
+is_traced : (is_fresh later_fresh : Freshness) (keeping later_keeping : Keeping) (told : Option Tree) (stays others : Stays) (taken spent : ℕ) (config : Config) (before after : State)
     (result : Result Gathered TraceFault) → before.folder.holds ≡ told → before.trail ≡ no_trail
-    → Met (answers_of references taken before) (trace config) result (answers_of others spent after)
+    → Met (answers_of is_fresh keeping stays taken before) (trace config) result (answers_of later_fresh later_keeping others spent after)
     → IfSome told
     (λ tree. (sights : Sights) → Sees tree before.known sights → IsTold result → traced sights config ≡ result)
-is_traced None references others taken spent config before after result holds fresh met = tt
-is_traced (Some tree) references others taken spent config before after result holds fresh met = λ sights sees is_told.
+is_traced is_fresh later_fresh keeping later_keeping None stays others taken spent config before after result holds fresh met = tt
+is_traced is_fresh later_fresh keeping later_keeping (Some tree) stays others taken spent config before after result holds fresh met = λ sights sees is_told.
     ap (λ trail. result_of (evaluated (answers sights) trail (trace config))) (sym fresh)
-    ∙ (met.comes (told_by sights) (record { tree = tree; sights = sights; holds = holds; sees = sees; are = refl })
+    ∙ (met.comes (told_by is_fresh sights) (record { tree = tree; sights = sights; holds = holds; sees = sees; are = refl })
     is_told).is
 
 -- what the walk's questions look at until it ends
-of_footprint : (told : Option Tree) (references : List ℕ) (taken : ℕ) (config : Config) (before : State) (path : List ℕ)
+of_footprint : (is_fresh : Freshness) (keeping : Keeping) (told : Option Tree) (stays : Stays) (taken : ℕ) (config : Config) (before : State) (path : List ℕ)
     → before.folder.holds ≡ told → before.trail ≡ no_trail
-    → IsAskedBy (answers_of references taken before) (trace config) path
+    → IsAskedBy (answers_of is_fresh keeping stays taken before) (trace config) path
     → IfSome told (λ tree. (sights : Sights) → Sees tree before.known sights → IsLookedAt sights config path)
-of_footprint None references taken config before path holds fresh is = tt
-of_footprint (Some tree) references taken config before path holds fresh is = λ sights sees.
-    let reached = walk_looks sights no_trail no_trail (trace config) path refl
-    (subst (λ trail. Contains (looks_to_end (told_by sights) trail (trace config)) path) fresh
-    (is (told_by sights) (record { tree = tree; sights = sights; holds = holds; sees = sees; are = refl }))) in
+of_footprint is_fresh keeping None stays taken config before path holds fresh is = tt
+of_footprint is_fresh keeping (Some tree) stays taken config before path holds fresh is = λ sights sees.
+    let reached = walk_looks sights is_fresh no_trail no_trail (trace config) path refl
+    (subst (λ trail. Contains (looks_to_end (told_by is_fresh sights) trail (trace config)) path) fresh
+    (is (told_by is_fresh sights) (record { tree = tree; sights = sights; holds = holds; sees = sees; are = refl }))) in
     record {
       front = reached.front;
       back = reached.back;
@@ -200,18 +273,18 @@ of_footprint (Some tree) references taken config before path holds fresh is = λ
       passes = reached.passes;
     }
 
-pub traces_by : (references others : List ℕ) (taken spent : ℕ) (config : Config) (before after : State)
+pub traces_by : (is_fresh later_fresh : Freshness) (keeping later_keeping : Keeping) (stays others : Stays) (taken spent : ℕ) (config : Config) (before after : State)
     (result : Result Gathered TraceFault) → before.trail ≡ no_trail
-    → Met (answers_of references taken before) (trace config) result (answers_of others spent after)
+    → Met (answers_of is_fresh keeping stays taken before) (trace config) result (answers_of later_fresh later_keeping others spent after)
     → IfErr result (IsOfWalk config)
     → Traces config before.folder before.known result after.folder after.known
-traces_by references others taken spent config before after result fresh met kind = record {
-  is = is_traced before.folder.holds references others taken spent config before after result refl fresh met;
+traces_by is_fresh later_fresh keeping later_keeping stays others taken spent config before after result fresh met kind = record {
+  is = is_traced is_fresh later_fresh keeping later_keeping before.folder.holds stays others taken spent config before after result refl fresh met;
   learns = learns_at before after no_trail no_trail (result ≡ Err Memory)
       (IsOfFootprint config before.folder before.known)
       (learns_as before after (result ≡ Err Memory) (result ≡ Err Memory)
-      (IsAskedBy (answers_of references taken before) (trace config)) (IsOfFootprint config before.folder before.known)
-      (λ e. e) (λ path. of_footprint before.folder.holds references taken config before path refl fresh) met.learns);
+      (IsAskedBy (answers_of is_fresh keeping stays taken before) (trace config)) (IsOfFootprint config before.folder before.known)
+      (λ e. e) (λ path. of_footprint is_fresh keeping before.folder.holds stays taken config before path refl fresh) met.learns);
   looks = record {
     tree = ap (λ (keeps : Kept). keeps.holds) met.keeps;
     writes = ap (λ (keeps : Kept). keeps.writes) met.keeps;

@@ -1,8 +1,8 @@
 mod WalkLooks
 pub mod AnswerLemmas
-mod NamedModules
+pub mod NamedModules
 mod Lending
-mod JoinedTables
-mod AskedQuestions
-mod TrailPaths
+pub mod JoinedTables
+pub mod AskedQuestions
+pub mod TrailPaths
 mod Showings

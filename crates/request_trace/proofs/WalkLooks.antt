@@ -21,7 +21,7 @@ use Rattle.package_lookup.specs.Trails.{IsReached}
 use Rattle.package_lookup.proofs.Questions.{limited_always}
 use Rattle.package_lookup.proofs.Reaching.{reached_now, reached_as, reached_behind, reached_by_front, looks_passed}
 use Rattle.trace_walk.specs.Meeting.{asked_then, asked_to_end, looks_to_end}
-use Rattle.request_trace.specs.Answering.{told_by}
+use Rattle.request_trace.specs.Answering.{Freshness, told_by}
 
 module _ (sights : Sights) where
   abbrev Reached : Trail → List (List ℕ) → List ℕ → Type 0
@@ -121,39 +121,40 @@ module _ (sights : Sights) where
   abbrev walked : {X : Type 0} → Asking Question Answer X → List (List ℕ)
   walked asking = looks sights (through put asking)
 
-  behind_by : {X : Type 0} (one other : Trail) (question : Question) (next : Answer question → Asking Question Answer X)
-      (path : List ℕ) (first : Ended (Answer question) Trail LimitName) → answers sights one question ≡ first
-      → begun one ≡ begun other
-      → ((answer : Answer question) (after later : Trail) → begun after ≡ begun later
-      → Contains (looks_to_end (told_by sights) after (next answer)) path → Reached later (walked (next answer)) path)
-      → Contains (asked_then first (λ answer after. looks_to_end (told_by sights) after (next answer))) path
-      → Reached other (walked (ask question next)) path
-  behind_by one other question next path (stopped limit after) e same rest held = absurd (contains_none path held)
-  behind_by one other question next path (ends answer after) e same rest held =
-      let found = passes_alike (begun one) other after (looks sights (put question)) same
-      (looks_passed look_limits sights (begun one) after (put question) answer e) in
-      let is : answer ≡ outcome sights (put question) =
-      ends_outcome (limited look_limits sights) sights (limited_always sights) (begun one) after (put question) answer e in
-      reached_as look_limits sights other (looks sights (put question) ++ walked (next answer))
-      (walked (ask question next)) path
-      (questions_then sights (put question) (λ a. through put (next a))
-      ∙ ap (λ a. looks sights (put question) ++ walked (next a)) (sym is))
-      (reached_behind look_limits sights other found.later (looks sights (put question)) (walked (next answer)) path
-      found.passes (rest answer after found.later found.same held))
+  module _ (is_fresh : Freshness) where
+    behind_by : {X : Type 0} (one other : Trail) (question : Question) (next : Answer question → Asking Question Answer X)
+        (path : List ℕ) (first : Ended (Answer question) Trail LimitName) → answers sights one question ≡ first
+        → begun one ≡ begun other
+        → ((answer : Answer question) (after later : Trail) → begun after ≡ begun later
+        → Contains (looks_to_end (told_by is_fresh sights) after (next answer)) path → Reached later (walked (next answer)) path)
+        → Contains (asked_then first (λ answer after. looks_to_end (told_by is_fresh sights) after (next answer))) path
+        → Reached other (walked (ask question next)) path
+    behind_by one other question next path (stopped limit after) e same rest held = absurd (contains_none path held)
+    behind_by one other question next path (ends answer after) e same rest held =
+        let found = passes_alike (begun one) other after (looks sights (put question)) same
+        (looks_passed look_limits sights (begun one) after (put question) answer e) in
+        let is : answer ≡ outcome sights (put question) =
+        ends_outcome (limited look_limits sights) sights (limited_always sights) (begun one) after (put question) answer e in
+        reached_as look_limits sights other (looks sights (put question) ++ walked (next answer))
+        (walked (ask question next)) path
+        (questions_then sights (put question) (λ a. through put (next a))
+        ∙ ap (λ a. looks sights (put question) ++ walked (next a)) (sym is))
+        (reached_behind look_limits sights other found.later (looks sights (put question)) (walked (next answer)) path
+        found.passes (rest answer after found.later found.same held))
 
-  pub walk_looks : {X : Type 0} (one other : Trail) (asking : Asking Question Answer X) (path : List ℕ)
-      → begun one ≡ begun other → Contains (looks_to_end (told_by sights) one asking) path
-      → Reached other (walked asking) path
-  walk_looks one other (answered value) path same held = absurd (contains_none path held)
-  walk_looks one other (ask question next) path same held =
-      elim (Contains-append_cases (to_end (begun one) (put question))
-      (asked_then (answers sights one question) (λ answer after. looks_to_end (told_by sights) after (next answer))) path
-      held) [
-        | inl here ↦ reached_by_front look_limits sights other (looks sights (put question)) (walked (ask question next))
-            path
-            (walked (next (outcome sights (put question))), questions_then sights (put question) (λ a. through put (next a)))
-            (reached_alike (begun one) other (looks sights (put question)) path same
-            (to_end_reached (begun one) (put question) path here))
-        | inr later ↦ behind_by one other question next path (answers sights one question) refl same
-            (λ answer after last trails more. walk_looks after last (next answer) path trails more) later
-      ]
+    pub walk_looks : {X : Type 0} (one other : Trail) (asking : Asking Question Answer X) (path : List ℕ)
+        → begun one ≡ begun other → Contains (looks_to_end (told_by is_fresh sights) one asking) path
+        → Reached other (walked asking) path
+    walk_looks one other (answered value) path same held = absurd (contains_none path held)
+    walk_looks one other (ask question next) path same held =
+        elim (Contains-append_cases (to_end (begun one) (put question))
+        (asked_then (answers sights one question) (λ answer after. looks_to_end (told_by is_fresh sights) after (next answer))) path
+        held) [
+          | inl here ↦ reached_by_front look_limits sights other (looks sights (put question)) (walked (ask question next))
+              path
+              (walked (next (outcome sights (put question))), questions_then sights (put question) (λ a. through put (next a)))
+              (reached_alike (begun one) other (looks sights (put question)) path same
+              (to_end_reached (begun one) (put question) path here))
+          | inr later ↦ behind_by one other question next path (answers sights one question) refl same
+              (λ answer after last trails more. walk_looks after last (next answer) path trails more) later
+        ]

@@ -1,11 +1,22 @@
 -- The answers to a walk's questions by looks at a folder.
 --     result_by response            what a question comes to, as the result of a call
---     told_by sights                the answers by what stands at each path, and the looks of each question up to the
---                                   one that a limit stops; each is fresh
---     ToldBy folder known told      these are the answers so, as far as looks tell
+--     Freshness                     which questions are fresh, by what stands at each path
+--     all_fresh                     each question is
+--     Keeping                       of which questions an answer is kept, by what stands at each path
+--     all_kept                      none needs to be
+--     told_by is_fresh sights       the answers by what stands at each path, the looks of each question up to the one that
+--                                   a limit stops, and which are fresh
+--     ToldBy is_fresh folder known told      these are the answers so, as far as looks tell
+--     TakesStep is_fresh before question taken spent      no step, or one if the question is fresh, by all that looks
+--                                                         tell
+--     KeepsOn keeping later before  what is kept stays so, by all that looks tell
+--     KeepsAnswer later before question result      and an answer to the question is kept, where one is given
+--     Stays                         the references, and names that stay
 --     references_of lookup steps    where the answers write
---     answers_of references steps looks      what answers, in this state, behind so many steps
-use Rattle.std.specs.Prelude.{◌≡◌, ℕ, true, List, [], ◌∷◌, Some, Result, Ok, Err}
+--     stays_of lookup steps         the same, where no names stay
+--     answers_of is_fresh keeping stays steps looks      what answers, in this state, behind so many steps
+use Rattle.std.specs.Prelude.{◌≡◌, ◌≤◌, ◌+◌, ℕ, Bool, true, List, [], ◌∷◌, length, filter, Some, Result, Ok, Err}
+use Rattle.std.specs.Prelude.{⊤, IfOk, IfSome}
 use Rattle.tree_spec.specs.LookAskings.{Sights}
 use Rattle.tree_spec.specs.LookLimits.{Trail, begun, look_limits, limited}
 use Rattle.tree_spec.specs.States.{FolderState}
@@ -28,32 +39,77 @@ result_by (fails not_read) = Err ReadFault
 result_by (fails no_memory) = Err Memory
 result_by (fails never) = Err Memory
 
-abbrev pub told_by : Sights → Told Trail Question Answer
-told_by sights =
+abbrev pub Freshness : Type 0
+Freshness = Sights → Question → Bool
+
+abbrev pub all_fresh : Freshness
+all_fresh sights question = true
+
+abbrev pub Keeping : Type 1
+Keeping = Sights → Question → Type 0
+
+abbrev pub all_kept : Keeping
+all_kept sights question = ⊤
+
+abbrev pub told_by : Freshness → Sights → Told Trail Question Answer
+told_by is_fresh sights =
     record {
       answers = answers sights;
       looks = λ trail question. asked_to_end (limited look_limits sights) (begun trail) (put question);
-      fresh = λ question. true;
+      fresh = is_fresh sights;
+      stands = sights;
     }
 
-pub record ToldBy (folder : FolderState) (known : Known) (told : Told Trail Question Answer) : Type 0 where
+pub record ToldBy (is_fresh : Freshness) (folder : FolderState) (known : Known)
+    (told : Told Trail Question Answer) : Type 0 where
   pub tree : Tree
   pub sights : Sights
   pub holds : folder.holds ≡ Some tree
   pub sees : Sees tree known sights
-  pub are : told ≡ told_by sights
+  pub are : told ≡ told_by is_fresh sights
+
+abbrev pub TakesStep : Freshness → State → Question → ℕ → ℕ → Type 0
+TakesStep is_fresh before question taken spent =
+    IfSome before.folder.holds
+    (λ tree. (sights : Sights) → Sees tree before.known sights
+    → spent ≤ taken + length (filter (is_fresh sights) (question ∷ [])))
+
+abbrev pub KeepsOn : Keeping → Keeping → State → Type 0
+KeepsOn keeping later before =
+    IfSome before.folder.holds
+    (λ tree. (sights : Sights) → Sees tree before.known sights → (question : Question) → keeping sights question
+    → later sights question)
+
+abbrev pub KeepsAnswer : {X : Type 0} → Keeping → State → Question → Result X TraceFault → Type 0
+KeepsAnswer later before question result =
+    IfSome before.folder.holds
+    (λ tree. (sights : Sights) → Sees tree before.known sights → IfOk result (λ answer. later sights question))
+
+-- own: what an answerer leaves as it is
+pub record Stays : Type 0 where
+  pub references : List ℕ
+  pub names : List (List ℕ)
 
 abbrev pub references_of : {F : Type 0} → Lookup F → ℕ → List ℕ
 references_of lookup steps =
     lookup.folder.ghost_name ∷ lookup.known.ghost_name ∷ steps ∷ lookup.trail.ghost_name ∷ []
 
-abbrev pub answers_of : List ℕ → ℕ → State → AnswererState
-answers_of references steps looks =
+abbrev pub stays_of : {F : Type 0} → Lookup F → ℕ → Stays
+stays_of lookup steps = record { references = references_of lookup steps; names = [] }
+
+abbrev pub answers_of : Freshness → Keeping → Stays → ℕ → State → AnswererState
+answers_of is_fresh keeping stays steps looks =
     record {
-      told = ToldBy looks.folder looks.known;
+      told = ToldBy is_fresh looks.folder looks.known;
       state = looks.trail;
       faults = looks.folder.look_faults;
       steps = steps;
-      keeps = record { references = references; holds = looks.folder.holds; writes = looks.folder.write_faults };
+      keeps = record {
+        references = stays.references;
+        names = stays.names;
+        holds = looks.folder.holds;
+        writes = looks.folder.write_faults;
+      };
       looks = looks;
+      is_kept = keeping;
     }

@@ -10,8 +10,10 @@
 --                                                      wherever that is
 --     TakesStepsToEnd config before known from to      where a tree is told, no more steps than that, by all that looks
 --                                                      tell
+--     StepsByFresh is_fresh sights config before after      no more steps than there are fresh ones among them
+--     TakesFreshSteps is_fresh config before known from to      the same where a tree is told
 --     TracesTables config before known result after later from to      the trace as the walk's tables, in so many steps
-use Rattle.std.specs.Prelude.{◌≡◌, ◌≤◌, ◌+◌, ℕ, List, length, Some, Result, Err, IfSome, IfOk}
+use Rattle.std.specs.Prelude.{◌≡◌, ◌≤◌, ◌+◌, ℕ, List, length, filter, Some, Result, Err, IfSome, IfOk}
 use Rattle.std.specs.Prelude.{IfErr}
 use Rattle.tree_spec.specs.declared.LimitName.TheVariants.{Modules, Requests}
 use Rattle.tree_spec.specs.Limits.{limit_number}
@@ -35,6 +37,7 @@ use Rattle.trace_walk.specs.Shown.{traced_of}
 use Rattle.trace_walk.specs.Walked.{AreWalked}
 use Rattle.trace_walk.specs.Walking.{AllRead}
 use Rattle.trace_walk.specs.Kinds.{IsOfWalk}
+use Rattle.request_trace.specs.Answering.{Freshness}
 
 -- what is known of a folder, where nothing was looked at yet
 abbrev pub known_of : FolderState → Known → State
@@ -83,6 +86,17 @@ abbrev pub TakesStepsToEnd : Config → FolderState → Known → ℕ → ℕ �
 TakesStepsToEnd config before known from to =
     IfSome before.holds
     (λ tree. (sights : Sights) → Sees tree known sights → StepsByQuestions sights config from to)
+
+-- own: of the questions up to the refusal, if there is one
+pub record StepsByFresh (is_fresh : Freshness) (sights : Sights) (config : Config) (before after : ℕ) : Type 0 where
+  pub asked : List Question
+  pub are : asked_by_end sights config ≡ Some asked
+  pub steps : after ≤ before + length (filter (is_fresh sights) asked)
+
+abbrev pub TakesFreshSteps : Freshness → Config → FolderState → Known → ℕ → ℕ → Type 0
+TakesFreshSteps is_fresh config before known from to =
+    IfSome before.holds
+    (λ tree. (sights : Sights) → Sees tree known sights → StepsByFresh is_fresh sights config from to)
 
 pub record TracesTables (config : Config) (before : FolderState) (known : Known) (result : Result Tables TraceFault)
     (after : FolderState) (later : Known) (from to : ℕ) : Type 0 where

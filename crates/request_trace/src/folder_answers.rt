@@ -31,10 +31,10 @@ pub struct FolderAnswers<'a, 'b, F: Folder, L: Ledger> {
 impl<'a, 'b, F: Folder, L: Ledger> Answerer for FolderAnswers<'a, 'b, F, L> {
     ghost use Rattle.std.specs.Prelude.{⊤};
     ghost use Rattle.package_lookup.specs.Lookups.{state_of};
-    ghost use Rattle.request_trace.specs.Answering.{answers_of, references_of};
+    ghost use Rattle.request_trace.specs.Answering.{all_fresh, all_kept, answers_of, stays_of};
 
-    ghost state = { λ answers. answers_of (references_of answers.lookup answers.steps.ghost_name) answers.steps.now
-        (state_of F.state answers.lookup) };
+    ghost state = { λ answers. answers_of all_fresh all_kept (stays_of answers.lookup answers.steps.ghost_name)
+        answers.steps.now (state_of F.state answers.lookup) };
 
     ghost ready = { λ answers. ⊤ };
 
@@ -43,7 +43,7 @@ impl<'a, 'b, F: Folder, L: Ledger> Answerer for FolderAnswers<'a, 'b, F, L> {
         alloc: Global,
         path: &Path,
     ) -> Result<Result<Source, NoSource>, TraceFault> {
-        let found = module_source(alloc, &mut self.lookup, path, self.steps);
+        let found = module_source(&mut self.lookup, path, self.steps);
         source_answer(found)
     }
 
@@ -54,20 +54,13 @@ impl<'a, 'b, F: Folder, L: Ledger> Answerer for FolderAnswers<'a, 'b, F, L> {
         parent: &Path,
         specifier: &str,
     ) -> Result<NodeAnswer, TraceFault> {
-        let found = resolve(
-            alloc,
-            &mut self.lookup,
-            parent,
-            specifier,
-            conditions,
-            self.steps,
-        );
+        let found = resolve(&mut self.lookup, parent, specifier, conditions, self.steps);
         node_answer(found)
     }
 }
 
-// A module's source, as the walk is told it.
-fn source_answer(
+/// A module's source, as the walk is told it.
+pub fn source_answer(
     found: Result<Result<Source, NoSource>, LookupFault>,
 ) -> Result<Result<Source, NoSource>, TraceFault>
     requires { looked source_in found ≢ fails never }
@@ -83,8 +76,8 @@ fn source_answer(
     }
 }
 
-// Node's answer, as the walk is told it.
-fn node_answer(found: Result<Found, NodeFault>) -> Result<NodeAnswer, TraceFault>
+/// Node's answer, as the walk is told it.
+pub fn node_answer(found: Result<Found, NodeFault>) -> Result<NodeAnswer, TraceFault>
     requires { responded module_of found ≢ fails never }
     ensures is { resolutions result ≡ result_by (responded module_of found) }
     ensures kind { IfErr result IsOfAnswers }

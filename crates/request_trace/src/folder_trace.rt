@@ -2,12 +2,14 @@ ghost use Rattle.std.specs.Prelude.{◌≡◌, ◌+◌, IfOk, length};
 ghost use Rattle.request_trace.specs.Showing.{gathered_of};
 ghost use Rattle.request_trace.specs.Footprints.{IsFootprint};
 ghost use Rattle.request_trace.specs.Tracing.{TakesSteps, TakesStepsToEnd, Traces, TracesTables};
+ghost use Rattle.trace_walk.specs.Shown.{before_of};
+ghost use Rattle.trace_walk.specs.Walked.{AreWalked};
 ghost use Rattle.tree_spec.specs.LookLimits.{no_trail};
 
 use crate::folder_answers::FolderAnswers;
 use crate::traces::Trace;
 use package_lookup::{Known, Lookup, Trail};
-use shared_types::Steps;
+use shared_types::{Memory, Steps};
 use std::alloc::Global;
 use std::sync::ledger::Ledger;
 use trace_config::Config;
@@ -35,9 +37,25 @@ pub fn trace<F: Folder, L: Ledger>(
         steps.old steps.new }
     ensures asked { TakesStepsToEnd config.now (F.state folder.old) known.old steps.old steps.new }
 {
-    let base = config.base().copy(alloc)?;
     let mut trail = Trail::new(alloc);
     let tables = tables_of(alloc, folder, known, &mut trail, config, steps)?;
+    let trace = trace_of(alloc, config, tables, trail)?;
+    Ok(trace)
+}
+
+/// The trace of a walk that ended well, whoever answered its questions: of its tables, and of where was looked for it.
+pub fn trace_of(
+    alloc: Global,
+    config: &Config,
+    tables: Tables,
+    trail: Trail,
+) -> Result<Trace, Memory>
+    requires { AreWalked config.now tables }
+    ensures gathered { IfOk result (λ trace. trace.gathered ≡ before_of tables) }
+    ensures entries { IfOk result (λ trace. length trace.links.roots ≡ length config.now.entries) }
+    ensures footprint { IfOk result (λ trace. trace.footprint ≡ trail.paths) }
+{
+    let base = config.base().copy(alloc)?;
     let trace = Trace::of(alloc, base, tables, config.entries().len(), trail)?;
     Ok(trace)
 }
@@ -59,6 +77,7 @@ fn tables_of<F: Folder, L: Ledger>(
 {
     let mut answers = FolderAnswers {
         lookup: Lookup {
+            alloc,
             known,
             folder,
             trail,

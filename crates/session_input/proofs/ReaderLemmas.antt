@@ -6,13 +6,14 @@ use Rattle.tree_spec.specs.Counts.{Rose}
 use Rattle.tree_spec.specs.States.{SourceState}
 use Rattle.session_spec.specs.SessionLines as lines
 use Rattle.session_spec.specs.SessionLines.{malformed, unfinished, read_line}
-use Rattle.session_spec.specs.TakenInput.{IsFront, Takes, IsNeeded}
+use Rattle.session_spec.specs.TakenInput.{IsFront, Takes, LastBrought, taken_at_once}
+use Rattle.session_spec.proofs.TakenFronts.{untaken, takes_behind}
 use Rattle.session_input.specs.declared.reading.InputFault.{InputFault}
 use Rattle.session_input.specs.declared.reading.InputFault.TheVariants.{ReadFault, Memory}
 use Rattle.session_input.specs.declared.reading.Reading.{Reading}
 use Rattle.session_input.specs.declared.reading.Reading.TheVariants as reading
 use Rattle.session_input.specs.Readers.{Waiting, Grows, IsPiece, Brings, BringsNothing, BringsBeyond, FailsToBring, LosesPiece}
-use Rattle.session_input.specs.Readers.{Stays, ReadsAs, IsWithin, IsBeyond, Reads, FaultsBy, ReadsNext, GoesOn, Gains}
+use Rattle.session_input.specs.Readers.{Stays, ReadsAs, IsWithin, IsBeyond, Reads, FaultsBy, IsNeeded, ReadsNext, GoesOn, Gains}
 
 -- ---- takes
 
@@ -44,38 +45,7 @@ grows_then before middle after some more a b = record {
   room = let first = a.room in let second = b.room in let both = length-append some more in omega (arith, first, second, both);
 }
 
--- ---- what was gained so far
-
-pub gains_none : (before : Waiting) (source : SourceState) → Gains before before source source
-gains_none before source = record {
-  taken = [];
-  takes = takes_none source;
-  needed = inl refl;
-  grows = record { unread = sym (append-nil before.unread); number = refl; room = omega arith };
-  quiet = refl;
-}
-
-pub gains_more : (before middle after : Waiting) (source between later : SourceState) → Gains before middle source between → GoesOn middle after between later → Gains before after source later
-gains_more before middle after source between later gains goes = record {
-  taken = gains.taken ++ goes.brings.more;
-  takes = takes_then source between later gains.taken goes.brings.more gains.takes goes.brings.takes.takes;
-  needed = inr (record {
-    front = gains.taken;
-    last = goes.brings.more;
-    whole = refl;
-    some = goes.brings.piece.some;
-    short = goes.brings.piece.short;
-    needed = ap read_line (sym gains.grows.unread) ∙ goes.waits;
-  });
-  grows = grows_then before middle after gains.taken goes.brings.more gains.grows goes.brings.grows;
-  quiet = goes.brings.takes.quiet ∙ gains.quiet;
-}
-
-pub less_room : (before after : Waiting) (source later : SourceState) → GoesOn before after source later → after.room < before.room
-less_room before after source later goes =
-    let some = goes.brings.piece.some in
-    let room = goes.brings.grows.room in
-    omega (arith, some, room)
+-- ---- what is read with more
 
 module _ (before middle : Waiting) (front more : List ℕ) (grows : Grows before front middle) where
   same_bytes : middle.unread ++ more ≡ before.unread ++ (front ++ more)
@@ -93,18 +63,21 @@ module _ (before middle : Waiting) (front more : List ℕ) (grows : Grows before
     few = let few = is.few in let room = grows.room in let long = longer in omega (arith, few, room, long);
   }
 
-needed_further : (before middle : Waiting) (front more : List ℕ) → Grows before front middle → IsNeeded before.unread front → IsNeeded middle.unread more → IsNeeded before.unread (front ++ more)
-needed_further before middle front more grows needed (inl none) =
-    subst (λ (taken : List ℕ). IsNeeded before.unread taken) (sym (ap (λ (m : List ℕ). front ++ m) none ∙ append-nil front)) needed
-needed_further before middle front more grows needed (inr last) =
-    inr (record {
-      front = front ++ last.front;
-      last = last.last;
-      whole = ap (λ (m : List ℕ). front ++ m) last.whole ∙ sym (append_assoc front last.front last.last);
-      some = last.some;
-      short = last.short;
-      needed = read_further before middle front last.front grows unfinished last.needed;
-    })
+needed_further : (before middle : Waiting) (source between later : SourceState) (front more : List ℕ) → Grows before front middle → IsNeeded before source front between → IsNeeded middle between more later
+    → IsNeeded before source (front ++ more) later
+needed_further before middle source between later front more grows =
+    takes_behind (λ taken. IsWithin before taken unfinished) (λ taken. IsWithin middle taken unfinished) source between later front more (λ taken is. within_further before middle front taken grows unfinished is)
+
+-- the first take
+first_needed : (before : Waiting) (source later : SourceState) (more : List ℕ) → length more ≤ taken_at_once → LastBrought source (length more) later → read_line before.unread ≡ unfinished → IsNeeded before source more later
+first_needed before source later more short latest waits = inr (record {
+  front = [];
+  last = more;
+  whole = refl;
+  short = short;
+  latest = latest;
+  held = record { is = ap read_line (append-nil before.unread) ∙ waits; few = omega arith };
+})
 
 few_further : (before middle : Waiting) (front more : List ℕ) → Grows before front middle → length more ≤ middle.room + 1 → length (front ++ more) ≤ before.room + 1
 few_further before middle front more grows few =
@@ -141,12 +114,42 @@ faults_after source middle later (Ok read) e is = is ∙ e
 faults_after source middle later (Err ReadFault) e is = subst (λ (n : ℕ). Rose n later.faults) e is
 faults_after source middle later (Err Memory) e is = is ∙ e
 
+-- ---- what was gained so far
+
+pub gains_none : (before : Waiting) (source : SourceState) → Gains before before source source
+gains_none before source = record {
+  taken = [];
+  takes = takes_none source;
+  needed = untaken (λ taken. IsWithin before taken unfinished) source;
+  grows = record { unread = sym (append-nil before.unread); number = refl; room = omega arith };
+  quiet = refl;
+}
+
+pub gains_more : (before middle after : Waiting) (source between later : SourceState) → Gains before middle source between → GoesOn middle after between later → Gains before after source later
+gains_more before middle after source between later gains goes =
+    let more = goes.brings.more in
+    let takes = goes.brings.takes in
+    record {
+      taken = gains.taken ++ more;
+      takes = takes_then source between later gains.taken more gains.takes takes.takes;
+      needed = needed_further before middle source between later gains.taken more gains.grows gains.needed
+          (first_needed middle between later more goes.brings.piece.short takes.latest goes.waits);
+      grows = grows_then before middle after gains.taken more gains.grows goes.brings.grows;
+      quiet = takes.quiet ∙ gains.quiet;
+    }
+
+pub less_room : (before after : Waiting) (source later : SourceState) → GoesOn before after source later → after.room < before.room
+less_room before after source later goes =
+    let some = goes.brings.piece.some in
+    let room = goes.brings.grows.room in
+    omega (arith, some, room)
+
 pub reads_further : (before middle after : Waiting) (source between later : SourceState) (result : Result Reading InputFault) → Gains before middle source between
     → ReadsNext middle after between later result → ReadsNext before after source later result
 reads_further before middle after source between later result gains next = record {
   taken = gains.taken ++ next.taken;
   takes = takes_then source between later gains.taken next.taken gains.takes next.takes;
-  needed = needed_further before middle gains.taken next.taken gains.grows gains.needed next.needed;
+  needed = needed_further before middle source between later gains.taken next.taken gains.grows gains.needed next.needed;
   few = few_further before middle gains.taken next.taken gains.grows next.few;
   reads = reads_after before middle after gains.taken next.taken later result gains.grows next.reads;
   faults = faults_after source between later result gains.quiet next.faults;
@@ -165,16 +168,15 @@ module _ (before : Waiting) where
   hand_reads after later reading.Ended is = absurd is
   hand_reads after later reading.TooLong is = absurd is
 
+  none_needed : (source : SourceState) → IsNeeded before source [] source
+  none_needed source = untaken (λ taken. IsWithin before taken unfinished) source
+
   pub reads_at_hand : (after : Waiting) (source : SourceState) (read : Reading) → ReadsAs (read_line before.unread) before after (Some read) → ReadsNext before after source source (Ok read)
   reads_at_hand after source read is =
-      record { taken = []; takes = takes_none source; needed = inl refl; few = omega arith; reads = hand_reads after source read is; faults = refl }
+      record { taken = []; takes = takes_none source; needed = none_needed source; few = omega arith; reads = hand_reads after source read is; faults = refl }
 
   pub no_memory_at_hand : (after : Waiting) (source : SourceState) → ReadsNext before after source source (Err Memory)
-  no_memory_at_hand after source = record { taken = []; takes = takes_none source; needed = inl refl; few = omega arith; reads = tt; faults = refl }
-
-  first_needed : (more : List ℕ) → IsPiece more → read_line before.unread ≡ unfinished → IsNeeded before.unread more
-  first_needed more piece waits =
-      inr (record { front = []; last = more; whole = refl; some = piece.some; short = piece.short; needed = no_more ∙ waits })
+  no_memory_at_hand after source = record { taken = []; takes = takes_none source; needed = none_needed source; few = omega arith; reads = tt; faults = refl }
 
   module _ (middle after : Waiting) (source later : SourceState) (stays : Stays (read_line before.unread) unfinished before middle) where
     within_none : IsWithin before [] unfinished
@@ -183,28 +185,44 @@ module _ (before : Waiting) where
     pub goes_on : Brings middle after source later → GoesOn before after source later
     goes_on brings = record { waits = stays.is; brings = subst (λ (w : Waiting). Brings w after source later) stays.same brings }
 
+    now_needed : (more : List ℕ) → length more ≤ taken_at_once → LastBrought source (length more) later → IsNeeded before source more later
+    now_needed more short latest = first_needed before source later more short latest stays.is
+
     pub ends_here : BringsNothing middle after source later → ReadsNext before after source later (Ok reading.Ended)
-    ends_here brings =
-        record { taken = []; takes = brings.takes.takes; needed = inl refl; few = omega arith; reads = (within_none, brings.takes.spent); faults = brings.takes.quiet }
+    ends_here brings = record {
+      taken = [];
+      takes = brings.takes.takes;
+      needed = now_needed [] (omega arith) brings.takes.latest;
+      few = omega arith;
+      reads = (within_none, brings.takes.spent);
+      faults = brings.takes.quiet;
+    }
 
     pub is_too_long : BringsBeyond middle after source later → ReadsNext before after source later (Ok reading.TooLong)
     is_too_long brings = record {
       taken = brings.byte ∷ [];
       takes = brings.takes.takes;
-      needed = first_needed (brings.byte ∷ []) (record { some = omega arith; short = omega arith }) stays.is;
+      needed = now_needed (brings.byte ∷ []) (omega arith) brings.takes.latest;
       few = omega arith;
       reads = record { front = []; byte = brings.byte; whole = refl; full = sym (ap (λ (w : Waiting). w.room) (sym stays.same) ∙ brings.full); is = no_more ∙ stays.is };
       faults = brings.takes.quiet;
     }
 
     pub take_fails : FailsToBring middle after source later → ReadsNext before after source later (Err ReadFault)
-    take_fails fails = record { taken = []; takes = fails.fails.takes; needed = inl refl; few = omega arith; reads = within_none; faults = fails.fails.rose }
+    take_fails fails = record {
+      taken = [];
+      takes = fails.fails.takes;
+      needed = now_needed [] (omega arith) fails.fails.latest;
+      few = omega arith;
+      reads = within_none;
+      faults = fails.fails.rose;
+    }
 
     pub no_memory_for_more : LosesPiece middle source later → ReadsNext before after source later (Err Memory)
     no_memory_for_more loses = record {
       taken = loses.more;
       takes = loses.takes.takes;
-      needed = first_needed loses.more loses.piece stays.is;
+      needed = now_needed loses.more loses.piece.short loses.takes.latest;
       few = let few = loses.few in let same = ap (λ (w : Waiting). w.room) stays.same in omega (arith, few, same);
       reads = tt;
       faults = loses.takes.quiet;

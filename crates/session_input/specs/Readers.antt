@@ -17,6 +17,7 @@
 --     IsWithin before taken reading   these bytes may be taken, and with them the first line is read so
 --     IsBeyond before taken           no line is whole in the bytes that may be taken, and one more was
 --     Reads before after taken later result     what is read, when these bytes were taken
+--     IsNeeded before source taken later      no line was whole before any take
 --     ReadsNext before after source later result      so, with bytes of the source that were needed
 --     TurnsTo before after source later result        one look at what waits, and where that isn't enough one take
 --     Gains before after source later                 what was taken as long as no line was whole
@@ -29,7 +30,7 @@ use Rattle.tree_spec.specs.declared.LimitName.TheVariants.{Session}
 use Rattle.session_spec.specs.SessionLines as lines
 use Rattle.session_spec.specs.SessionLines.{Rest, changes, begins, commits, shows_map, ends_session}
 use Rattle.session_spec.specs.SessionLines.{reads, malformed, unfinished, read_line, cut_first}
-use Rattle.session_spec.specs.TakenInput.{Takes, IsSpent, IsNeeded, taken_at_once}
+use Rattle.session_spec.specs.TakenInput.{Takes, LastBrought, TakesWhile, IsSpent, taken_at_once}
 use Rattle.session_input.specs.Cuts.{cut_at}
 use Rattle.session_input.specs.declared.reader.SessionInput.{SessionInput}
 use Rattle.session_input.specs.declared.takes.Came.{Came}
@@ -68,10 +69,12 @@ pub record FillsFront (before : SourceState) (most : ℕ) (filled : List ℕ) (c
   pub within : count ≤ length filled
   pub takes : Takes before (take count filled) after
   pub spent : count ≡ 0 → IsSpent after
+  pub latest : LastBrought before (length (take count filled)) after
   pub quiet : after.faults ≡ before.faults
 
 pub record Fails (before after : SourceState) : Type 0 where
   pub takes : Takes before [] after
+  pub latest : LastBrought before 0 after
   pub rose : Rose before.faults after.faults
 
 abbrev pub Fills : SourceState → ℕ → List ℕ → Result ℕ InputFault → SourceState → Type 0
@@ -81,10 +84,12 @@ Fills before most filled (Err Memory) after = ⊥
 
 pub record TakesSome (before : SourceState) (more : List ℕ) (after : SourceState) : Type 0 where
   pub takes : Takes before more after
+  pub latest : LastBrought before (length more) after
   pub quiet : after.faults ≡ before.faults
 
 pub record TakesNothing (before after : SourceState) : Type 0 where
   pub takes : Takes before [] after
+  pub latest : LastBrought before 0 after
   pub spent : IsSpent after
   pub quiet : after.faults ≡ before.faults
 
@@ -202,11 +207,15 @@ FaultsBy source later (Ok read) = later.faults ≡ source.faults
 FaultsBy source later (Err ReadFault) = Rose source.faults later.faults
 FaultsBy source later (Err Memory) = later.faults ≡ source.faults
 
+-- own: before each take the line wasn't whole
+abbrev pub IsNeeded : Waiting → SourceState → List ℕ → SourceState → Type 0
+IsNeeded before source taken later = TakesWhile (λ front. IsWithin before front unfinished) source taken later
+
 pub record ReadsNext (before after : Waiting) (source later : SourceState)
     (result : Result Reading InputFault) : Type 0 where
   pub taken : List ℕ
   pub takes : Takes source taken later
-  pub needed : IsNeeded before.unread taken
+  pub needed : IsNeeded before source taken later
   pub few : length taken ≤ before.room + 1
   pub reads : Reads before after taken later result
   pub faults : FaultsBy source later result
@@ -225,6 +234,6 @@ TurnsTo before after source later (Err fault) = ReadsNext before after source la
 pub record Gains (before after : Waiting) (source later : SourceState) : Type 0 where
   pub taken : List ℕ
   pub takes : Takes source taken later
-  pub needed : IsNeeded before.unread taken
+  pub needed : IsNeeded before source taken later
   pub grows : Grows before taken after
   pub quiet : later.faults ≡ source.faults

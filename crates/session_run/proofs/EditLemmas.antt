@@ -1,7 +1,7 @@
 -- What an edit of a session comes to, as it is told.
-use Rattle.std.proofs.Common.{◌≡◌, ◌≤◌, ℕ, List, true, false, Option, Some, None, Result, Ok, Err, refl, sym, ap, ◌∙◌, subst}
+use Rattle.std.proofs.Common.{◌≡◌, ◌≤◌, [], ◌∷◌, ℕ, List, true, false, Option, Some, None, Result, Ok, Err, refl, sym, ap, ◌∙◌, subst, arith, one-mul}
 use Rattle.std.proofs.lemmas.List.Elements.{All-weaker}
-use Rattle.std.specs.Prelude.{◌+◌, IfSome, is_some}
+use Rattle.std.specs.Prelude.{◌+◌, ◌*◌, IfSome, is_some}
 use Rattle.tree_spec.specs.Counts.{Rose}
 use Rattle.tree_spec.specs.States.{FolderState}
 use Rattle.tree_spec.specs.Trees.{Tree}
@@ -17,10 +17,14 @@ use Rattle.session_spec.specs.declared.EditFault.{EditFault}
 use Rattle.session_spec.specs.Replies as replies
 use Rattle.session_spec.specs.Replies.{IsRefused, IsAccepted, Follows, Replies, fault_line, accepted_line}
 use Rattle.session_spec.specs.SessionStates.{SessionState, IsGenerated, draft_of, next_state}
-use Rattle.session_spec.specs.SessionSteps.{most_steps}
+use Rattle.session_spec.specs.SessionSteps.{generations, most_steps}
+use Rattle.session_spec.proofs.SessionSpending.{few_by_none}
+use Rattle.request_trace.specs.Tracing.{TakesSteps}
 use Rattle.edit_session.specs.NewLooks.{AsksNew as LooksAsked, LooksNew}
 use Rattle.edit_session.specs.Sessions.{Accepts, Prepares, Commits}
-use Rattle.edit_session.specs.SessionTrees.{IsSessionOf, shown_map, shown_counts}
+use Rattle.edit_session.specs.SessionTrees.{IsSessionOf, shown_map, shown_counts, steps_in, pending_steps}
+use Rattle.edit_session.specs.declared.session.Prepared.{Prepared}
+use Rattle.edit_session.specs.declared.session.Prepared.TheVariants.{Same}
 use Rattle.edit_session.specs.declared.session.Session.{Session}
 use Rattle.edit_session.specs.declared.stop.EditStop.{EditStop}
 use Rattle.edit_session.specs.declared.stop.EditStop.TheVariants as stop
@@ -33,6 +37,18 @@ use Rattle.session_run.specs.Editing.{IsToldBy, IsViewOf, look_state, SaysLine, 
 
 pub at_tree : (P : Tree → Type 0) (told : Option Tree) (tree : Tree) → told ≡ Some tree → IfSome told P → P tree
 at_tree P told tree e p = subst (λ (t : Option Tree). IfSome t P) e p
+
+-- ---- steps
+
+none_or_same : (pending : Option Prepared) → pending ≡ None → pending ≡ Some Same → ⊥
+none_or_same pending none same = (let no : None ≡ Some Same = sym none ∙ same in absurd (cc))
+
+pub few_steps : (before after : FolderState) (old new : Session) (edit : List Change) (result : Result (Unit {0}) EditStop) (spent spent_after : ℕ) → Prepares before old edit result after new
+    → TakesSteps result (λ done. pending_steps new) spent spent_after → spent_after ≤ spent + generations edit * most_steps
+few_steps before after old new [] (Ok tt) spent spent_after prepares takes =
+    few_by_none spent spent_after most_steps (let few = subst (λ (pending : Option Prepared). spent_after ≤ spent + steps_in pending) (prepares.same.0 refl) takes.counted in omega (arith, few))
+few_steps before after old new [] (Err stop) spent spent_after prepares takes = absurd (none_or_same new.pending prepares.nothing_pending (prepares.same.0 refl))
+few_steps before after old new (change ∷ more) result spent spent_after prepares takes = subst (λ (n : ℕ). spent_after ≤ spent + n) (sym (one-mul most_steps)) takes.bounded
 
 -- ---- replies
 
@@ -49,12 +65,12 @@ replies_accepted state next edit line is =
     (subst (λ (made : Result Draft EditFault). Follows state made (next_state state (draft_of next) next.map next.counts) (accepted_line next.counts)) (sym is.made)
     (replies.accepted (draft_of next) next.map next.counts current)))
 
-module _ (before after : FolderState) (old new : Session) (edit : List Change) (view : EditorState) (spent spent_after : ℕ) (few : spent_after ≤ spent + most_steps) (is : IsViewOf before old spent view) where
+module _ (before after : FolderState) (old new : Session) (edit : List Change) (view : EditorState) (spent spent_after : ℕ) (few : spent_after ≤ spent + generations edit * most_steps) (is : IsViewOf before old spent view) where
   abbrev left_view : EditorState
   left_view = record { told = view.told; faults = after.look_faults; asked = after.asked; spent = spent_after }
 
-  few_more : spent_after ≤ view.spent + most_steps
-  few_more = subst (λ (n : ℕ). spent_after ≤ n + most_steps) (sym is.spent) few
+  few_more : spent_after ≤ view.spent + generations edit * most_steps
+  few_more = subst (λ (n : ℕ). spent_after ≤ n + generations edit * most_steps) (sym is.spent) few
 
   abbrev Stays : Tree → Type 0
   Stays tree = (state : SessionState) → IsSessionOf tree old state → IsSessionOf tree new state

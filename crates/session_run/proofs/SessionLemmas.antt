@@ -33,9 +33,10 @@ use Rattle.session_spec.specs.Openings.{refresh_words, OpensAt, CanOpen, opens, 
 use Rattle.session_spec.specs.SessionLooks.{IsTriedLook, IsSessionLook, of_opening, of_edit, AsksFresh, AsksWithin}
 use Rattle.session_spec.specs.SessionRuns.{SessionComesTo, RepliesTo, unopened, RepliesToAll, NoFault, IsOpenedText, IsFrontShaped, IsAnswerShaped, SessionSays, SessionStops, SessionEnds}
 use Rattle.session_spec.specs.SessionStates.{SessionState, IsGenerated}
-use Rattle.session_spec.specs.TakenInput.{IsAwaited}
+use Rattle.session_spec.specs.TakenInput.{NoTake, IsAwaited}
 use Rattle.session_spec.specs.SessionSteps.{most_steps, SpendsFor, SessionSpends}
 use Rattle.session_spec.proofs.SessionSpending.{spends_nothing}
+use Rattle.session_spec.proofs.TakenFronts.{no_take}
 use Rattle.session_spec.specs.Talks.{begun, still}
 use Rattle.edit_session.specs.NewLooks.{AsksKept}
 use Rattle.edit_session.specs.Sessions.{IsOpened, OpensSession}
@@ -136,14 +137,14 @@ within_of told holds taken after fresh =
 
 -- ---- the beginning
 
-abbrev IsTakenOf : Tree → List ℕ → Type 0
-IsTakenOf tree taken = (taken ≡ []) ⊎ CanOpen tree
+abbrev IsTakenOf : Tree → SourceState → List ℕ → SourceState → Type 0
+IsTakenOf tree source taken later = NoTake source taken later ⊎ CanOpen tree
 
-pub none_front : IsFrontShaped [] []
-none_front = inr (refl, refl)
+pub none_front : (source : SourceState) → IsFrontShaped source [] source []
+none_front source = inr (no_take source, refl)
 
-pub none_awaited : IsAwaited []
-none_awaited = nothing_awaited
+pub none_awaited : (source : SourceState) → IsAwaited source [] source
+none_awaited source = nothing_awaited source
 
 abbrev state_on : Tree → Config → SessionState → SessionState
 state_on tree config state = record { tree = tree; config = config; map = state.map; counts = state.counts }
@@ -258,7 +259,7 @@ module _ (config : Config) (session : Session) where
           runs.cut_off (opened_line session ++ text) (opened_text text) (no_fault quiet) (up (front_then taken text) told) is_status (gives_then out.got middle.got gone.got (opened_line session) text got gives)
           (subst (λ (n : ℕ). Rose n gone.faults) quiet_out rose)
 
-    taken_then : IfSome before.holds (λ tree. IsTakenOf tree taken)
+    taken_then : IfSome before.holds (λ tree. IsTakenOf tree source taken later)
     taken_then = up {P = λ state. Unit {0}} (λ state tree begins any. inr (record { state = state; opens_at = begins.opens_at })) (if_all view.told (λ state. tt))
 
 -- ---- the steps
@@ -281,8 +282,8 @@ module _ (spent mid : ℕ) (few : mid ≤ spent + most_steps) where
 
 -- ---- a session that is opened
 
-nothing_taken : (told : Option Tree) → IfSome told (λ tree. IsTakenOf tree [])
-nothing_taken told = if_all told (λ tree. inl refl)
+nothing_taken : (told : Option Tree) (source : SourceState) → IfSome told (λ tree. IsTakenOf tree source [] source)
+nothing_taken told source = if_all told (λ tree. inl (no_take source))
 
 module _ (config : Config) (before mid : FolderState) (session : Session) (opening : OpensSession config before (Ok session) mid) (is_config : IsConfigAt refresh_words Refresh config before) (spent spent_mid : ℕ) (few : spent_mid ≤ spent + most_steps) where
   abbrev told_first : Option SessionState
@@ -340,8 +341,8 @@ module _ (config : Config) (before mid : FolderState) (session : Session) (openi
         taken = [];
         takes = takes_none source;
         few = omega arith;
-        awaited = none_awaited;
-        opened = nothing_taken before.holds;
+        awaited = none_awaited source;
+        opened = nothing_taken before.holds source;
         asked = within_of before.asked before.holds [] mid (fresh_first []);
         steps = spends_none spent spent_mid few;
         stops = stops;
@@ -360,7 +361,7 @@ module _ (config : Config) (before mid : FolderState) (session : Session) (openi
     pub opened_ends : (after : FolderState) (later : SourceState) (spent_after : ℕ) → OpenedEnds session mid after source later out gone result spent_mid spent_after → HoldsSession before after source later out gone result spent spent_after
     opened_ends after later spent_after (wants same taken rested is) =
         as_left after later spent_after same taken rested
-        (runs.said memory_status memory_line (runs.memory [] none_front (no_fault_yet source) (if_all before.holds (λ tree. unopened)) refl refl) is)
+        (runs.said memory_status memory_line (runs.memory [] (none_front source) (no_fault_yet source) (if_all before.holds (λ tree. unopened)) refl refl) is)
     opened_ends after later spent_after (cut_off same taken rested is_status gives rose) =
         as_left after later spent_after same taken rested (runs.cut_off (opened_line session) line_alone (no_fault_yet source) front_line is_status gives rose)
     opened_ends after later spent_after (replies middle closed got quiet talks asks) =
@@ -401,8 +402,8 @@ module _ (config : Config) (before mid : FolderState) (source : SourceState) (ou
       taken = [];
       takes = takes_none source;
       few = omega arith;
-      awaited = none_awaited;
-      opened = nothing_taken before.holds;
+      awaited = none_awaited source;
+      opened = nothing_taken before.holds source;
       asked = within_of before.asked before.holds [] mid (fresh_opening config before mid opening.asked opening.footprint is_config.told []);
       steps = spends_none spent spent_mid few;
       stops = stopped why opening is;
@@ -415,11 +416,11 @@ module _ (config : Config) (before mid : FolderState) (source : SourceState) (ou
       stopped (stop.Refused why) opening (inl is) =
           let refused : IfSome before.holds (λ tree. RefusesRun refresh_words tree why) = if_two before.holds (λ tree configured refuses. by_tree Refresh config why configured refuses) is_config.told opening.refused in
           runs.said (status_of why) (line_of why)
-          (runs.outcome (inr (refl, record { why = why; can = can.by_tree Refresh config why is_config.can opening.kind; ends = refl; says = refl })) (opening.looks.quiet (λ e. cc), refl) (if_some before.holds (λ tree because. runs.refused why because) refused)
+          (runs.outcome (inr (no_take source, record { why = why; can = can.by_tree Refresh config why is_config.can opening.kind; ends = refl; says = refl })) (opening.looks.quiet (λ e. cc), refl) (if_some before.holds (λ tree because. runs.refused why because) refused)
           (if_some before.holds (λ tree because. if_all source.left (λ input. runs.refused why because)) refused)) is
       stopped (stop.Refused why) opening (inr is) =
-          runs.said memory_status memory_line (runs.memory [] none_front (opening.looks.quiet (λ e. cc), refl) (if_all before.holds (λ tree. unopened)) refl refl) is
+          runs.said memory_status memory_line (runs.memory [] (none_front source) (opening.looks.quiet (λ e. cc), refl) (if_all before.holds (λ tree. unopened)) refl refl) is
       stopped stop.ReadFault opening is =
-          runs.said read_fault_status read_fault_line (runs.look_fault [] none_front (opening.looks.cause refl) refl (if_all before.holds (λ tree. unopened)) refl refl) is
+          runs.said read_fault_status read_fault_line (runs.look_fault [] (none_front source) (opening.looks.cause refl) refl (if_all before.holds (λ tree. unopened)) refl refl) is
       stopped stop.Memory opening is =
-          runs.said memory_status memory_line (runs.memory [] none_front (opening.looks.quiet (λ e. cc), refl) (if_all before.holds (λ tree. unopened)) refl refl) is
+          runs.said memory_status memory_line (runs.memory [] (none_front source) (opening.looks.quiet (λ e. cc), refl) (if_all before.holds (λ tree. unopened)) refl refl) is

@@ -17,3 +17,4 @@ pub mod FreshMaps
 pub mod RefusalStatuses
 pub mod SessionsPromise
 pub mod OpenInputs
+pub mod TakenFronts

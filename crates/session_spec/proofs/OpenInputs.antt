@@ -10,7 +10,7 @@ use Rattle.session_spec.specs.Laws.{OpenInputsWait, WaitingIsOpen}
 use Rattle.session_spec.specs.Openings.{opening_line}
 use Rattle.session_spec.specs.SessionRuns as session
 use Rattle.session_spec.specs.SessionStates.{SessionState}
-use Rattle.session_spec.specs.SessionSteps.{MakesEdits}
+use Rattle.session_spec.specs.SessionSteps.{MakesEdits, generations}
 use Rattle.session_spec.specs.SessionSteps as spending
 use Rattle.session_spec.specs.TakenInput.{LeavesOpen}
 use Rattle.session_spec.specs.Talks.{Standing, begun, behind, turn_of, Talks, still, edits, collects, shows_it}
@@ -26,7 +26,7 @@ record ReachesEdits (input : List ℕ) (later : Standing) : Type 0 where
 made_by : (input : List ℕ) (at later : Standing) (out : List ℕ) → Talks at out later → (count : ℕ) → MakesEdits input count at.held at.input → ReachesEdits input later
 made_by input _ _ _ (still at) count made = record { count = count; made = made }
 made_by input _ _ _ (edits at later edit rest next line out is replies goes) count made =
-    made_by input (behind at next None rest) later out goes (count + 1) (spending.edits count at.held at.input edit rest made is)
+    made_by input (behind at next None rest) later out goes (count + generations edit) (spending.edits count at.held at.input edit rest made is)
 made_by input _ _ _ (collects at later held rest out is goes) count made =
     made_by input (behind at at.state (Some held) rest) later out goes count (spending.collects count at.held at.input held rest made is)
 made_by input _ _ _ (shows_it at later rest out is goes) count made =

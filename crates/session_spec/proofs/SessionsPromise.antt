@@ -80,9 +80,9 @@ shaped_refusal_status status text refusal = record {
   other = λ f. refusal_is_other refusal.why (sym refusal.ends ∙ f);
 }
 
-own_status : (taken : List ℕ) (status : ℕ) (text : List ℕ) → IsSessionShaped taken status text → IsOwnStatus status
-own_status taken status text (inl answer) = answer_status status text answer
-own_status taken status text (inr refusal) = shaped_refusal_status status text refusal.1
+own_status : (source later : SourceState) (taken : List ℕ) (status : ℕ) (text : List ℕ) → IsSessionShaped source taken later status text → IsOwnStatus status
+own_status source later taken status text (inl answer) = answer_status status text answer
+own_status source later taken status text (inr refusal) = shaped_refusal_status status text refusal.1
 
 -- ---- a session
 
@@ -91,25 +91,25 @@ module _ (before after : FolderState) (source later : SourceState) (taken : List
   SaysSo status text = SessionSays before after source later taken status text
 
   says_status : (status : ℕ) (text : List ℕ) → SaysSo status text → IsStatus status
-  says_status status text (runs.outcome shape none here whole) = (own_status taken status text shape).is
+  says_status status text (runs.outcome shape none here whole) = (own_status source later taken status text shape).is
   says_status status text (runs.memory front shaped none told e is) = inr (inr (inr (inr (inr (inr (inr (inr (inl e))))))))
   says_status status text (runs.look_fault front shaped rose same told e is) = inr (inr (inr (inr (inr (inl e)))))
   says_status status text (runs.take_fault front shaped waits same rose told e is) = inr (inr (inr (inr (inr (inl e)))))
 
   says_read : (status : ℕ) (text : List ℕ) → SaysSo status text → status ≡ 4 → Rose before.look_faults after.look_faults ⊎ Rose source.faults later.faults
-  says_read status text (runs.outcome shape none here whole) four = absurd ((own_status taken status text shape).not_read four)
+  says_read status text (runs.outcome shape none here whole) four = absurd ((own_status source later taken status text shape).not_read four)
   says_read status text (runs.memory front shaped none told e is) four = absurd (omega (arith, e, four))
   says_read status text (runs.look_fault front shaped rose same told e is) four = inl rose
   says_read status text (runs.take_fault front shaped waits same rose told e is) four = inr rose
 
   says_write : (status : ℕ) (text : List ℕ) → SaysSo status text → status ≡ 5 → ⊥
-  says_write status text (runs.outcome shape none here whole) five = (own_status taken status text shape).not_written five
+  says_write status text (runs.outcome shape none here whole) five = (own_status source later taken status text shape).not_written five
   says_write status text (runs.memory front shaped none told e is) five = omega (arith, e, five)
   says_write status text (runs.look_fault front shaped rose same told e is) five = omega (arith, e, five)
   says_write status text (runs.take_fault front shaped waits same rose told e is) five = omega (arith, e, five)
 
   says_other : (status : ℕ) (text : List ℕ) → SaysSo status text → status ≢ 10
-  says_other status text (runs.outcome shape none here whole) ten = (own_status taken status text shape).other ten
+  says_other status text (runs.outcome shape none here whole) ten = (own_status source later taken status text shape).other ten
   says_other status text (runs.memory front shaped none told e is) ten = omega (arith, e, ten)
   says_other status text (runs.look_fault front shaped rose same told e is) ten = omega (arith, e, ten)
   says_other status text (runs.take_fault front shaped waits same rose told e is) ten = omega (arith, e, ten)

@@ -1,6 +1,6 @@
 -- The laws of sessions. Each is the contract of a function of this crate.
 use Rattle.std.specs.FinMap.{get}
-use Rattle.std.specs.Prelude.{◌≡◌, ◌≤◌, ◌⊎◌, ◌++◌, ◌∷◌, [], ⊤, ℕ, true, List, length, flat_map, Ok, Err, All}
+use Rattle.std.specs.Prelude.{◌≡◌, ◌≤◌, ◌<◌, ◌⊎◌, ◌++◌, ◌∷◌, [], ⊤, ℕ, true, List, length, flat_map, Some, Ok, Err, All}
 use Rattle.tree_spec.specs.Limits.{limit_number}
 use Rattle.tree_spec.specs.Paths.{IsPath}
 use Rattle.tree_spec.specs.States.{FolderState, SourceState, SinkState}
@@ -23,7 +23,7 @@ use Rattle.session_spec.specs.SessionRuns.{SessionComesTo, RepliesTo, RepliesToA
 use Rattle.session_spec.specs.SessionRuns.{IsAnswerShaped, IsRefusalShaped}
 use Rattle.session_spec.specs.SessionStates.{SessionState, draft_of, config_with, IsCurrent}
 use Rattle.session_spec.specs.Talks.{Standing, begun, turn_of, Talks, edits_of}
-use Rattle.session_spec.specs.TakenInput.{LeavesOpen}
+use Rattle.session_spec.specs.TakenInput.{LeavesOpen, IsAwaited}
 
 -- the two states are one, and so are the lines
 pub record SameReply (next other : SessionState) (line said : List ℕ) : Type 0 where
@@ -244,6 +244,13 @@ abbrev pub WaitingIsOpen : Type 0
 WaitingIsOpen =
     (tree : Tree) (input text : List ℕ) → length input ≤ limit_number Session → RepliesToAll tree input text
     → LeavesOpen input
+
+-- once the bytes taken hold what ends a session, no take follows: what lies behind such bytes came with some of them,
+-- where the source tells how many bytes the last take brought
+abbrev pub NoTakeBehindEnd : Type 0
+NoTakeBehindEnd =
+    (source later : SourceState) (taken more : List ℕ) (count : ℕ) → IsAwaited source (taken ++ more) later
+    → (LeavesOpen taken → ⊥) → later.latest ≡ Some count → length more < count
 
 -- own: what a session says in the end that stands there: behind `end`, behind a line that has no meaning or stands in
 -- the wrong place, where the input ends within a line, and where the limit does

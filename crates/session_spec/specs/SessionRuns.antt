@@ -8,9 +8,10 @@
 --     IsAnswerShaped status text      status and text belong together, whatever the folder tells, of a session that is
 --                                     opened
 --     IsRefusalShaped status text     and of one that isn't
---     IsSessionShaped taken status text       either is so, and nothing is taken for a session that isn't opened
---     IsFrontShaped taken text        the line of an opening and then any replies; or nothing is said, and nothing is
---                                     taken
+--     IsSessionShaped source taken later status text      either is so, and no take is made for a session that isn't
+--                                     opened
+--     IsFrontShaped source taken later text   the line of an opening and then any replies; or nothing is said, and no
+--                                     take is made
 --     SessionSays before after source later taken status text      why a session ends with this status and this text
 --     SessionStops before after source later taken out out_after result      all of the text went out, or the sink
 --                                     failed and that ended the session
@@ -36,7 +37,7 @@ use Rattle.session_spec.specs.SessionLooks.{AsksWithin}
 use Rattle.session_spec.specs.SessionSteps.{SessionSpends}
 use Rattle.session_spec.specs.SessionStates.{Counts, SessionState, IsGenerated}
 use Rattle.session_spec.specs.Talks.{Standing, begun, turn_of, Talks}
-use Rattle.session_spec.specs.TakenInput.{Takes, LeavesOpen, IsAwaited}
+use Rattle.session_spec.specs.TakenInput.{Takes, NoTake, LeavesOpen, IsAwaited}
 
 -- ---- what is said
 
@@ -117,11 +118,12 @@ pub record IsRefusalShaped (status : ℕ) (text : List ℕ) : Type 0 where
   pub ends : status ≡ status_of why
   pub says : text ≡ line_of why
 
-abbrev pub IsSessionShaped : List ℕ → ℕ → List ℕ → Type 0
-IsSessionShaped taken status text = IsAnswerShaped status text ⊎ ((taken ≡ []) × IsRefusalShaped status text)
+abbrev pub IsSessionShaped : SourceState → List ℕ → SourceState → ℕ → List ℕ → Type 0
+IsSessionShaped source taken later status text =
+    IsAnswerShaped status text ⊎ (NoTake source taken later × IsRefusalShaped status text)
 
-abbrev pub IsFrontShaped : List ℕ → List ℕ → Type 0
-IsFrontShaped taken text = IsOpenedText text ⊎ ((taken ≡ []) × (text ≡ []))
+abbrev pub IsFrontShaped : SourceState → List ℕ → SourceState → List ℕ → Type 0
+IsFrontShaped source taken later text = IsOpenedText text ⊎ (NoTake source taken later × (text ≡ []))
 
 -- own: the session says what is defined, and no fault was counted; or there is want of memory, or a fault that was
 -- counted, behind the line of the opening and whole replies, or behind nothing. Where a take fails, no line in the
@@ -129,16 +131,16 @@ IsFrontShaped taken text = IsOpenedText text ⊎ ((taken ≡ []) × (text ≡ []
 pub data SessionSays (before after : FolderState) (source later : SourceState) (taken : List ℕ) (status : ℕ)
     (text : List ℕ) : Type 0 where
   outcome :
-      IsSessionShaped taken status text → NoFault before after source later
+      IsSessionShaped source taken later status text → NoFault before after source later
       → IfSome before.holds (λ tree. SessionComesTo tree taken status text)
       → IfSome before.holds (λ tree. IfSome source.left (λ input. SessionComesTo tree input status text))
       → SessionSays before after source later taken status text
   memory :
-      (front : List ℕ) → IsFrontShaped taken front → NoFault before after source later
+      (front : List ℕ) → IsFrontShaped source taken later front → NoFault before after source later
       → IfSome before.holds (λ tree. RepliesTo tree taken front) → status ≡ memory_status
       → text ≡ front ++ memory_line → SessionSays before after source later taken status text
   look_fault :
-      (front : List ℕ) → IsFrontShaped taken front → Rose before.look_faults after.look_faults
+      (front : List ℕ) → IsFrontShaped source taken later front → Rose before.look_faults after.look_faults
       → later.faults ≡ source.faults → IfSome before.holds (λ tree. RepliesTo tree taken front)
       → status ≡ read_fault_status
       → text ≡ front ++ read_fault_line → SessionSays before after source later taken status text
@@ -170,8 +172,8 @@ pub record SessionEnds (before after : FolderState) (source later : SourceState)
   pub taken : List ℕ
   pub takes : Takes source taken later
   pub few : length taken ≤ limit_number Session + 1
-  pub awaited : IsAwaited taken
-  pub opened : IfSome before.holds (λ tree. (taken ≡ []) ⊎ CanOpen tree)
+  pub awaited : IsAwaited source taken later
+  pub opened : IfSome before.holds (λ tree. NoTake source taken later ⊎ CanOpen tree)
   pub asked : IfSome before.asked (λ old. AsksWithin before.holds taken old after)
   pub steps : SessionSpends taken spent spent_after
   pub stops : SessionStops before after source later taken out out_after result

@@ -1,16 +1,24 @@
 -- How many steps a session takes. own.
---     MakesEdits input edits held behind      the lines of an input up to there make so many edits; held: the changes
---                                     since a `begin`, where one is open; behind: the input from there on
+--     generations edit                how many generations an edit needs
+--     MakesEdits input edits held behind      the lines of an input up to there make so many edits that need one; held:
+--                                     the changes since a `begin`, where one is open; behind: the input from there
+--                                     on
 --     most_steps                      how many steps a generation takes, at most
---     SpendsFor input before after    as many at most as one generation takes for each edit to which the input comes
+--     SpendsFor input before after    as many at most as one generation takes for each such edit to which the input
+--                                     comes
 --     SessionSpends taken before after        the same, with one generation more, for the opening; as far as the limit
 --                                     allows
-use Rattle.std.specs.Prelude.{◌≡◌, ◌≤◌, ◌+◌, ◌*◌, ℕ, List, take, Option, Some, None}
+use Rattle.std.specs.Prelude.{◌≡◌, ◌≤◌, ◌+◌, ◌*◌, ◌∷◌, [], ℕ, List, take, Option, Some, None}
 use Rattle.tree_spec.specs.Limits.{limit_number}
 use Rattle.tree_spec.specs.declared.LimitName.TheVariants.{Modules, Requests, Session}
 use Rattle.session_spec.specs.declared.Change.{Change}
 use Rattle.session_spec.specs.Conversations.{makes, holds, shows, turn_at}
 use Rattle.session_spec.specs.SessionLines.{Rest}
+
+-- own: what has no changes generates nothing
+abbrev pub generations : List Change → ℕ
+generations [] = 0
+generations (change ∷ more) = 1
 
 -- own: whatever comes of an edit, its lines make it
 pub data MakesEdits (input : List ℕ) : ℕ → Option (List Change) → List ℕ → Type 0 where
@@ -18,7 +26,7 @@ pub data MakesEdits (input : List ℕ) : ℕ → Option (List Change) → List �
   edits :
       (count : ℕ) (held : Option (List Change)) (from : List ℕ) (edit : List Change) (rest : Rest)
       → MakesEdits input count held from → turn_at held from ≡ makes edit rest
-      → MakesEdits input (count + 1) None rest.behind
+      → MakesEdits input (count + generations edit) None rest.behind
   collects :
       (count : ℕ) (held : Option (List Change)) (from : List ℕ) (changes : List Change) (rest : Rest)
       → MakesEdits input count held from → turn_at held from ≡ holds changes rest

@@ -3,17 +3,17 @@
 --     Takes before bytes after        these bytes were taken from the source, one after another
 --     IsSpent state                   nothing is left
 --     taken_at_once                   how many bytes are taken at once, at most
---     IsNeeded unread taken           but for the last of the taken bytes, as many as a take may ask for, what was at
---                                     hand held no whole line
+--     LastBrought before count after  the last take brought so many bytes, where the source tells it
+--     NoTake before taken after       no take was made
+--     TakesWhile Held before taken after      each take was made while this was said of the bytes that were taken
 --     LeavesOpen input                these bytes don't hold what ends a session
---     IsAwaited taken                 but for the last of these bytes, as many as a take may ask for, they don't
-use Rattle.std.specs.Prelude.{◌≡◌, ◌≤◌, ◌<◌, ◌⊎◌, ◌++◌, [], ℕ, List, length, Option, Some, None, IfSome}
+--     IsAwaited before taken after    each take was made while the bytes that were taken left the session open
+use Rattle.std.specs.Prelude.{◌≡◌, ◌≤◌, ◌⊎◌, ◌++◌, [], ℕ, List, length, Option, Some, None, IfSome, option_map}
 use Rattle.tree_spec.specs.Limits.{limit_number}
 use Rattle.tree_spec.specs.States.{SourceState}
 use Rattle.tree_spec.specs.declared.LimitName.TheVariants.{Session}
 use Rattle.session_spec.specs.declared.Change.{Change}
 use Rattle.session_spec.specs.Conversations.{stops, turn_at}
-use Rattle.session_spec.specs.SessionLines.{unfinished, read_line}
 use Rattle.session_spec.specs.SessionSteps.{MakesEdits}
 
 pub record IsFront (bytes input : List ℕ) (left : Option (List ℕ)) : Type 0 where
@@ -34,16 +34,26 @@ IsSpent state = IfSome state.left (λ left. left ≡ [])
 abbrev pub taken_at_once : ℕ
 taken_at_once = 65536
 
-pub record IsLastOf (unread taken : List ℕ) : Type 0 where
+-- own: what is told stays told
+abbrev pub LastBrought : SourceState → ℕ → SourceState → Type 0
+LastBrought before count after = after.latest ≡ option_map (λ earlier. count) before.latest
+
+pub record NoTake (before : SourceState) (taken : List ℕ) (after : SourceState) : Type 0 where
+  pub nothing : taken ≡ []
+  pub same : after ≡ before
+
+-- own: before the last take, which brought the last of these bytes or nothing
+pub record LastTake (Held : List ℕ → Type 0) (before : SourceState) (taken : List ℕ)
+    (after : SourceState) : Type 0 where
   pub front : List ℕ
   pub last : List ℕ
   pub whole : taken ≡ front ++ last
-  pub some : 0 < length last
   pub short : length last ≤ taken_at_once
-  pub needed : read_line (unread ++ front) ≡ unfinished
+  pub latest : LastBrought before (length last) after
+  pub held : Held front
 
-abbrev pub IsNeeded : List ℕ → List ℕ → Type 0
-IsNeeded unread taken = (taken ≡ []) ⊎ IsLastOf unread taken
+abbrev pub TakesWhile : (List ℕ → Type 0) → SourceState → List ℕ → SourceState → Type 0
+TakesWhile Held before taken after = NoTake before taken after ⊎ LastTake Held before taken after
 
 -- ---- a whole session
 
@@ -57,10 +67,6 @@ pub record LeavesOpen (input : List ℕ) : Type 0 where
   pub made : MakesEdits input edits held behind
   pub waits : turn_at held behind ≡ stops
 
--- own: nothing is taken behind a take that brought what ends the session
-pub record IsAwaited (taken : List ℕ) : Type 0 where
-  pub front : List ℕ
-  pub last : List ℕ
-  pub whole : taken ≡ front ++ last
-  pub short : length last ≤ taken_at_once
-  pub left_open : LeavesOpen front
+-- own: no take is made once the bytes that were taken hold what ends the session
+abbrev pub IsAwaited : SourceState → List ℕ → SourceState → Type 0
+IsAwaited before taken after = TakesWhile LeavesOpen before taken after

@@ -15,7 +15,7 @@ use Rattle.session_spec.specs.SessionLines as lines
 use Rattle.session_spec.specs.SessionLines.{malformed, unfinished}
 use Rattle.session_spec.specs.SessionStates.{SessionState}
 use Rattle.session_spec.specs.SessionSteps.{SpendsFor}
-use Rattle.session_spec.specs.TakenInput.{IsFront, Takes, IsSpent, IsNeeded, IsAwaited}
+use Rattle.session_spec.specs.TakenInput.{IsFront, Takes, IsSpent, IsAwaited}
 use Rattle.session_spec.proofs.SessionSpending.{edits_on, spends_allowed}
 use Rattle.session_spec.proofs.SomeAnswer.{read_shorter}
 use Rattle.session_spec.proofs.Standings.{answers_refused, answers_short, answers_long}
@@ -23,7 +23,7 @@ use Rattle.session_spec.proofs.Talking.{with_more}
 use Rattle.session_input.specs.declared.reading.Order.{Order}
 use Rattle.session_input.specs.declared.reading.InputFault.TheVariants.{ReadFault, Memory}
 use Rattle.session_input.specs.declared.reading.Reading.TheVariants as reading
-use Rattle.session_input.specs.Readers.{Waiting, order_of, IsWithin, IsBeyond, IsRead, ReadsNext}
+use Rattle.session_input.specs.Readers.{Waiting, order_of, IsWithin, IsBeyond, IsRead, IsNeeded, ReadsNext}
 use Rattle.session_input.proofs.ReaderLemmas.{takes_then}
 use Rattle.session_talk.specs.Editors.{EditorState}
 use Rattle.session_talk.specs.Talking.{Now, now_at, StandsAt, OrderedAt, Looks, GoesOn, IsOrdered, RepliesFront, RepliesAll, at_line, at_limit, IsQuiet, Converses, TellsEnd}
@@ -39,7 +39,7 @@ answers_spent (Some input) last taken text status state answers came spent =
     subst (λ (bytes : List ℕ). Answers state bytes text status) whole answers
 
 module _ (first : Now) (editor : EditorState) (before : Waiting) (held : Option (List Change)) (source later : SourceState) (out : SinkState)
-    (goes : GoesOn first (now_at editor before held source out)) (more : List ℕ) (takes : Takes source more later) (needed : IsNeeded before.unread more) (few_more : length more ≤ before.room + 1) where
+    (goes : GoesOn first (now_at editor before held source out)) (more : List ℕ) (takes : Takes source more later) (needed : IsNeeded before source more later) (few_more : length more ≤ before.room + 1) where
   abbrev here : Now
   here = now_at editor before held source out
 
@@ -55,8 +55,11 @@ module _ (first : Now) (editor : EditorState) (before : Waiting) (held : Option 
   most : length goes.taken + length more ≤ limit_number Session + 1
   most = let limit = goes.limit in let room = goes.room in omega (arith, limit, room, few_more)
 
-  awaited_all : IsAwaited all
-  awaited_all = awaited_with goes.taken more before.unread goes.edits held goes.made most needed goes.awaited
+  awaited_all : IsAwaited first.source all later
+  awaited_all =
+      let limit = goes.limit in
+      let room = goes.room in
+      awaited_with first.source source later goes.taken more before goes.edits held goes.made (omega (arith, limit, room)) goes.awaited needed
 
   long_all : length all ≡ length goes.taken + length more
   long_all = length-append goes.taken more

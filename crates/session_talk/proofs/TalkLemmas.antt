@@ -19,11 +19,12 @@ use Rattle.session_spec.specs.SessionLooks.{IsTriedLook}
 use Rattle.session_spec.specs.SessionStates.{SessionState}
 use Rattle.session_spec.specs.SessionSteps.{MakesEdits, SpendsFor, most_steps}
 use Rattle.session_spec.specs.SessionSteps as spending
-use Rattle.session_spec.specs.TakenInput.{IsFront, Takes, IsNeeded, LeavesOpen, IsAwaited}
+use Rattle.session_spec.specs.TakenInput.{IsFront, Takes, LeavesOpen, IsAwaited}
 use Rattle.session_spec.specs.Talks.{Standing, begun, behind, turn_of, Talks, still, edits, collects, shows_it}
 use Rattle.session_spec.proofs.SessionSpending.{few_by_none, edits_on}
+use Rattle.session_spec.proofs.TakenFronts.{untaken, takes_behind}
 use Rattle.session_spec.proofs.Talking.{with_more, talks_on, talks_then, allowed_front}
-use Rattle.session_input.specs.Readers.{Waiting}
+use Rattle.session_input.specs.Readers.{Waiting, IsWithin, IsNeeded}
 use Rattle.session_input.proofs.ReaderLemmas.{takes_none}
 use Rattle.session_talk.specs.Editors.{EditorState, AsksFor, IsReplied}
 use Rattle.session_talk.specs.Talking.{Now, now_at, StandsAt, OrderedAt, Looks, GoesOn}
@@ -63,7 +64,7 @@ ends_then first now after text line status result e quiet (ending.output_fault i
 
 -- ---- ends
 
-module _ (first : Now) (editor : EditorState) (source : SourceState) (taken : List ℕ) (takes : Takes first.source taken source) (awaited : IsAwaited taken) (few : length taken ≤ limit_number Session + 1)
+module _ (first : Now) (editor : EditorState) (source : SourceState) (taken : List ℕ) (takes : Takes first.source taken source) (awaited : IsAwaited first.source taken source) (few : length taken ≤ limit_number Session + 1)
     (looks : Looks first (take (limit_number Session) taken) editor.asked) (spends : SpendsFor (take (limit_number Session) taken) first.editor.spent editor.spent) where
   module _ (out after : SinkState) (text : List ℕ) (got : out.got ≡ option_map (λ front. front ++ text) first.out.got) (quiet_out : out.faults ≡ first.out.faults) where
     ends_as : (line : List ℕ) (status result : ℕ) → Says first editor source taken status (text ++ line) → Ends status line out after result → Converses first editor source after result
@@ -225,21 +226,14 @@ module _ (state : SessionState) (front text more : List ℕ) (now : Now) (stands
     input = unread;
   }
 
-pub awaited_with : (taken more unread : List ℕ) (count : ℕ) (held : Option (List Change)) → MakesEdits taken count held unread → length taken + length more ≤ limit_number Session + 1 → IsNeeded unread more
-    → IsAwaited taken → IsAwaited (taken ++ more)
-awaited_with taken more unread count held made most (inl none) awaited =
-    subst (λ (bytes : List ℕ). IsAwaited bytes) (sym (ap (λ (m : List ℕ). taken ++ m) none ∙ append-nil taken)) awaited
-awaited_with taken more unread count held made most (inr last) awaited =
-    let long = ap length last.whole ∙ length-append last.front last.last in
-    let longer = length-append taken last.front in
-    let some = last.some in
-    record {
-      front = taken ++ last.front;
-      last = last.last;
-      whole = ap (λ (m : List ℕ). taken ++ m) last.whole ∙ sym (append_assoc taken last.front last.last);
-      short = last.short;
-      left_open = open_with taken last.front unread count held made (omega (arith, most, long, longer, some)) last.needed;
-    }
+pub awaited_with : (first source later : SourceState) (taken more : List ℕ) (waits : Waiting) (count : ℕ) (held : Option (List Change)) → MakesEdits taken count held waits.unread → length taken + waits.room ≤ limit_number Session
+    → IsAwaited first taken source → IsNeeded waits source more later → IsAwaited first (taken ++ more) later
+awaited_with first source later taken more waits count held made room =
+    takes_behind LeavesOpen (λ front. IsWithin waits front unfinished) first source later taken more
+    (λ front is.
+    let long = length-append taken front in
+    let few = is.few in
+    open_with taken front waits.unread count held made (omega (arith, long, few, room)) is.is)
 
 -- ---- the beginning
 
@@ -253,14 +247,8 @@ stands_begun None faults asked spent waiting source out unread number = tt
 stands_begun (Some state) faults asked spent waiting source out unread number =
     record { at = begun state []; talks = still (begun state []); told = refl; number = number; held = refl; input = unread }
 
-pub nothing_awaited : IsAwaited []
-nothing_awaited = record {
-  front = [];
-  last = [];
-  whole = refl;
-  short = omega arith;
-  left_open = record { few = omega arith; edits = 0; held = None; behind = []; made = spending.begun; waits = refl };
-}
+pub nothing_awaited : (source : SourceState) → IsAwaited source [] source
+nothing_awaited source = untaken LeavesOpen source
 
 none_looked : (told : Option SessionState) (asked : Option (List (List ℕ))) → IfSome told (λ state. IfSome asked (λ old. AsksFor (IsTriedLook state []) old asked))
 none_looked None asked = tt
@@ -273,7 +261,7 @@ goes_begun editor waiting source out unread number room = record {
   takes = takes_none source;
   limit = room;
   room = omega arith;
-  awaited = nothing_awaited;
+  awaited = nothing_awaited source;
   text = [];
   said = nothing_said out.got;
   stands = stands_begun editor.told editor.faults editor.asked editor.spent waiting source out unread number;

@@ -1,5 +1,5 @@
 -- What a turn comes to.
-use Rattle.std.proofs.Common.{◌∷◌, [], ◌≡◌, ◌≤◌, ◌++◌, ℕ, List, length, Option, Some, None, refl, sym, ap, ◌∙◌, subst, inl, inr, arith, add-mul, one-mul}
+use Rattle.std.proofs.Common.{◌∷◌, [], ◌≡◌, ◌≤◌, ◌++◌, ℕ, List, length, Option, Some, None, refl, sym, ap, ◌∙◌, subst, inl, inr, arith, add-mul}
 use Rattle.std.specs.Prelude.{◌+◌, ◌*◌, take, IfSome}
 use Rattle.tree_spec.specs.Counts.{Rose}
 use Rattle.tree_spec.specs.Limits.{limit_number}
@@ -15,7 +15,7 @@ use Rattle.session_spec.specs.SessionLines.{Rest, reads, changes, begins, commit
 use Rattle.session_input.specs.Readers.{Waiting}
 use Rattle.session_spec.specs.SessionLooks.{IsTriedLook}
 use Rattle.session_spec.specs.SessionStates.{SessionState}
-use Rattle.session_spec.specs.SessionSteps.{MakesEdits, SpendsFor, most_steps}
+use Rattle.session_spec.specs.SessionSteps.{generations, MakesEdits, SpendsFor, most_steps}
 use Rattle.session_spec.specs.SessionSteps as spending
 use Rattle.session_spec.specs.Talks.{turn_of}
 use Rattle.session_spec.proofs.SessionSpending.{spends_here}
@@ -29,9 +29,8 @@ use Rattle.session_talk.proofs.TalkLemmas.{if_told, two_told, give_then, replies
 sum_more : (spent now after some more all : ℕ) → all ≡ some + more → now ≤ spent + some → after ≤ now + more → after ≤ spent + all
 sum_more spent now after some more all e one other = omega (arith, e, one, other)
 
-one_more : (spent now after edits most : ℕ) → now ≤ spent + edits * most → after ≤ now + most → after ≤ spent + (edits + 1) * most
-one_more spent now after edits most one other =
-    sum_more spent now after (edits * most) most ((edits + 1) * most) (add-mul edits 1 most ∙ ap (λ (n : ℕ). edits * most + n) (one-mul most)) one other
+more_edits : (spent now after edits more most : ℕ) → now ≤ spent + edits * most → after ≤ now + more * most → after ≤ spent + (edits + more) * most
+more_edits spent now after edits more most one other = sum_more spent now after (edits * most) (more * most) ((edits + more) * most) (add-mul edits more most) one other
 
 module _ (first now : Now) (number : ℕ) (order : lines.Order) (goes : IsOrdered number order first now) where
   abbrev Ordering : SessionState → Type 0
@@ -60,15 +59,15 @@ module _ (first now : Now) (number : ℕ) (order : lines.Order) (goes : IsOrdere
   does_at : (wanted : Rest → Turn) → ((rest : Rest) → turn now.held (reads order rest) ≡ wanted rest) → (state : SessionState) (is : Ordering state) → turn_of is.at ≡ wanted is.rest
   does_at wanted does state is = held_turn state goes.taken goes.text number order now is ∙ does is.rest
 
-  made_edit : (edit : List Change) → ((rest : Rest) → turn now.held (reads order rest) ≡ makes edit rest) → MakesEdits goes.taken (goes.edits + 1) None now.waiting.unread
+  made_edit : (edit : List Change) → ((rest : Rest) → turn now.held (reads order rest) ≡ makes edit rest) → MakesEdits goes.taken (goes.edits + generations edit) None now.waiting.unread
   made_edit edit does =
-      subst (λ (bytes : List ℕ). MakesEdits goes.taken (goes.edits + 1) None bytes) (sym goes.made.input)
+      subst (λ (bytes : List ℕ). MakesEdits goes.taken (goes.edits + generations edit) None bytes) (sym goes.made.input)
       (spending.edits goes.edits now.held goes.made.from edit goes.made.rest goes.made.made (turn_here (makes edit goes.made.rest) (does goes.made.rest)))
 
-  spends_edit : (edit : List Change) → ((rest : Rest) → turn now.held (reads order rest) ≡ makes edit rest) → (editor : EditorState) → editor.spent ≤ now.editor.spent + most_steps
+  spends_edit : (edit : List Change) → ((rest : Rest) → turn now.held (reads order rest) ≡ makes edit rest) → (editor : EditorState) → editor.spent ≤ now.editor.spent + generations edit * most_steps
       → SpendsFor (take (limit_number Session) goes.taken) first.editor.spent editor.spent
   spends_edit edit does editor steps =
-      spends_as editor (goes.edits + 1) None now.waiting.unread (made_edit edit does) (one_more first.editor.spent now.editor.spent editor.spent goes.edits most_steps goes.steps steps)
+      spends_as editor (goes.edits + generations edit) None now.waiting.unread (made_edit edit does) (more_edits first.editor.spent now.editor.spent editor.spent goes.edits (generations edit) most_steps goes.steps steps)
 
   looks_made : (edit : List Change) → ((state : SessionState) (is : Ordering state) → turn_of is.at ≡ makes edit is.rest) → (editor : EditorState) → EditsLook now.editor edit editor → Looks first goes.taken editor.asked
   looks_made edit does editor edits =
@@ -164,7 +163,7 @@ module _ (first now : Now) (number : ℕ) (order : lines.Order) (goes : IsOrdere
   pub make_turns : (edit : List Change) → ((rest : Rest) → turn now.held (reads order rest) ≡ makes edit rest) → (editor : EditorState) (out : SinkState) (result : Option ℕ)
       → Makes now.editor edit now.out editor out result → Turns first editor now.waiting None now.source out result
   make_turns edit does editor out result (replied line edits looks steps gives) =
-      replied_turns editor out line (λ e. edits.untold (goes.untold e)) edits.quiet (looks_made edit (does_at (makes edit) does) editor looks) (goes.edits + 1) (made_edit edit does) (one_more first.editor.spent now.editor.spent editor.spent goes.edits most_steps goes.steps steps)
+      replied_turns editor out line (λ e. edits.untold (goes.untold e)) edits.quiet (looks_made edit (does_at (makes edit) does) editor looks) (goes.edits + generations edit) (made_edit edit does) (more_edits first.editor.spent now.editor.spent editor.spent goes.edits (generations edit) most_steps goes.steps steps)
       (λ state at. stands_made state goes.taken goes.text number order now at editor out edit line (does_at (makes edit) does state at)
       (subst (λ (t : Option SessionState). IfSome t (λ s. IsReplied s edit line editor.told)) at.told edits.replied))
       result gives

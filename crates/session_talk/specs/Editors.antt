@@ -9,13 +9,13 @@
 --     Edits before edit result after  an edit is made, and its reply given
 --     EditsFrom Before edit result After      the same from each state that it is to one that it is then
 --     Shows state map                 the map is the state's
-use Rattle.std.specs.Prelude.{◌≡◌, ◌≤◌, ◌+◌, ◌++◌, ℕ, List, Option, Some, None, Result, Ok, Err, IfSome, All}
+use Rattle.std.specs.Prelude.{◌≡◌, ◌≤◌, ◌+◌, ◌*◌, ◌++◌, ℕ, List, Option, Some, None, Result, Ok, Err, IfSome, All}
 use Rattle.tree_spec.specs.Counts.{Rose}
 use Rattle.session_spec.specs.declared.Change.{Change}
 use Rattle.session_spec.specs.EditLooks.{IsEditLook}
 use Rattle.session_spec.specs.Replies.{Replies}
 use Rattle.session_spec.specs.SessionStates.{SessionState}
-use Rattle.session_spec.specs.SessionSteps.{most_steps}
+use Rattle.session_spec.specs.SessionSteps.{generations, most_steps}
 use Rattle.session_talk.specs.declared.editor.EditorFault.{EditorFault}
 use Rattle.session_talk.specs.declared.editor.EditorFault.TheVariants.{ReadFault, Memory}
 
@@ -60,7 +60,7 @@ pub record Edits (before : EditorState) (edit : List Change) (result : Result (L
     (after : EditorState) : Type 0 where
   pub comes : Comes before edit result after
   pub looks : EditsLook before edit after
-  pub steps : after.spent ≤ before.spent + most_steps
+  pub steps : after.spent ≤ before.spent + generations edit * most_steps
 
 abbrev pub EditsFrom :
     (EditorState → Type 0) → List Change → Result (List ℕ) EditorFault → (EditorState → Type 0) → Type 0

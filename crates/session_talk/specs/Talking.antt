@@ -36,7 +36,7 @@ use Rattle.session_spec.specs.Conversations.{Answers, stops, map_reply, end_repl
 use Rattle.session_spec.specs.SessionLines.{Order, Rest, reads, read_line}
 use Rattle.session_spec.specs.SessionLooks.{IsTriedLook}
 use Rattle.session_spec.specs.SessionStates.{SessionState}
-use Rattle.session_spec.specs.SessionSteps.{MakesEdits, SpendsFor, most_steps}
+use Rattle.session_spec.specs.SessionSteps.{generations, MakesEdits, SpendsFor, most_steps}
 use Rattle.session_spec.specs.TakenInput.{Takes, LeavesOpen, IsAwaited}
 use Rattle.session_spec.specs.Talks.{Standing, begun, turn_of, Talks}
 use Rattle.session_input.specs.Readers.{Waiting}
@@ -95,7 +95,7 @@ pub record Goes (Stands : SessionState → List ℕ → List ℕ → Type 0) (Ma
   pub takes : Takes first.source taken now.source
   pub limit : first.waiting.room ≡ limit_number Session
   pub room : first.waiting.room ≡ length taken + now.waiting.room
-  pub awaited : IsAwaited taken
+  pub awaited : IsAwaited first.source taken now.source
   pub text : List ℕ
   pub said : now.out.got ≡ option_map (λ front. front ++ text) first.out.got
   pub stands : IfSome first.editor.told (λ state. Stands state taken text)
@@ -180,7 +180,7 @@ pub record Converses (first : Now) (editor : EditorState) (source : SourceState)
   pub taken : List ℕ
   pub takes : Takes first.source taken source
   pub few : length taken ≤ limit_number Session + 1
-  pub awaited : IsAwaited taken
+  pub awaited : IsAwaited first.source taken source
   pub looks : Looks first (take (limit_number Session) taken) editor.asked
   pub steps : SpendsFor (take (limit_number Session) taken) first.editor.spent editor.spent
   pub stops : Stops first editor source out taken result
@@ -208,15 +208,16 @@ pub data Makes (before : EditorState) (edit : List Change) (out : SinkState) (af
     (out_after : SinkState) (result : Option ℕ) : Type 0 where
   replied :
       (line : List ℕ) → EditsTold before edit line after → EditsLook before edit after
-      → after.spent ≤ before.spent + most_steps → GivesReply line out out_after result
+      → after.spent ≤ before.spent + generations edit * most_steps → GivesReply line out out_after result
       → Makes before edit out after out_after result
   fails :
       (status : ℕ) → result ≡ Some status → Rose before.faults after.faults → EditsLook before edit after
-      → after.spent ≤ before.spent + most_steps → Ends read_fault_status read_fault_line out out_after status
+      → after.spent ≤ before.spent + generations edit * most_steps
+      → Ends read_fault_status read_fault_line out out_after status
       → Makes before edit out after out_after result
   wants :
       (status : ℕ) → result ≡ Some status → after.faults ≡ before.faults → EditsLook before edit after
-      → after.spent ≤ before.spent + most_steps → Ends memory_status memory_line out out_after status
+      → after.spent ≤ before.spent + generations edit * most_steps → Ends memory_status memory_line out out_after status
       → Makes before edit out after out_after result
 
 pub data ShowsMap (editor : EditorState) (out after : SinkState) (result : Option ℕ) : Type 0 where

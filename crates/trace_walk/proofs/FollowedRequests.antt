@@ -39,6 +39,8 @@ refused_first before config tables r specifier want fault given = record {
   learns = learns_nothing before.looks (failed Gathered fault ≡ Err Memory)
       (IsAskedBy before (followed_by config tables r specifier want));
   covered = λ finished covers. covers;
+  still_kept = λ told tells question kept. kept;
+  asked_kept = λ told tells value e. absurd (cc);
 }
 
 -- a check before Node is asked isn't passed

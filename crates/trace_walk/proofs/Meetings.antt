@@ -1,10 +1,11 @@
 -- One call after another: what a whole asking comes to, by what its parts come to.
 --     asked_first, asked_behind          what a part asks for, the whole does
 --     spent_first, spent_then            how many fresh questions a whole asks, by its parts
+--     asked_front                        the questions of a part that has its value, and those behind it
 --     Left before whole middle rest      whatever the rest comes to from here, the whole comes to
 use Rattle.std.proofs.Common.{◌≡◌, ◌≤◌, ◌+◌, ◌++◌, ◌∷◌, [], ℕ, Bool, true, false, List, length, Result, Ok, Err, refl, sym, ap, ◌∙◌, subst, arith, append_assoc}
-use Rattle.std.specs.Prelude.{Contains, filter, cond}
-use Rattle.std.proofs.lemmas.List.Elements.{Contains-append_left, Contains-append_right}
+use Rattle.std.specs.Prelude.{All, Contains, filter, cond}
+use Rattle.std.proofs.lemmas.List.Elements.{Contains-append_left, Contains-append_right, All-nil, All-append, All-weaker}
 use Rattle.asking_spec.specs.Askings.{Asking, answered, ask, and_then, on_ok, and_ok}
 use Rattle.asking_spec.specs.Evaluation.{Ended, ends, stopped, then_ended, Answers, evaluated}
 use Rattle.asking_spec.proofs.EvaluationLemmas.{ends_then, refused_then, stopped_then}
@@ -144,6 +145,27 @@ module _ {T Q : Type 0} {A : Q → Type 0} {X Y : Type 0} (told : Told T Q A) (s
       + length (filter told.fresh (asked_then end (λ value after. asked_to_end told.answers after (on_ok next value)))))
       (ended_ok (evaluated told.answers state part) value middle one.is one.leaves)
 
+-- ---- the questions of a whole, by its parts
+
+asked_front : {T Q : Type 0} {A : Q → Type 0} {X Y : Type 0} (told : Told T Q A) (state middle : T)
+    (part : Asking Q A (Result X TraceFault)) (next : X → Asking Q A (Result Y TraceFault)) (value : X)
+    → Comes told.answers state part (Ok value) middle → asked_to_end told.answers state (and_ok part next)
+    ≡ asked_to_end told.answers state part ++ asked_to_end told.answers middle (next value)
+asked_front told state middle part next value one =
+    asked_in_parts told.answers state part (on_ok next)
+    ∙ ap (λ end. asked_to_end told.answers state part
+    ++ asked_then end (λ value after. asked_to_end told.answers after (on_ok next value)))
+    (ended_ok (evaluated told.answers state part) value middle one.is one.leaves)
+
+-- an answer is kept of each question of a part, and of each behind it
+kept_both : {T Q : Type 0} {A : Q → Type 0} (told : Told T Q A) (middle after : Outside T Q A) (part rest whole : List Q)
+    → ((question : Q) → middle.is_kept told.stands question → after.is_kept told.stands question) → whole ≡ part ++ rest
+    → All (middle.is_kept told.stands) part → All (after.is_kept told.stands) rest → All (after.is_kept told.stands) whole
+kept_both told middle after part rest whole still same first then =
+    subst (All (after.is_kept told.stands)) (sym same)
+    (All-append (after.is_kept told.stands) part rest
+    (All-weaker (middle.is_kept told.stands) (after.is_kept told.stands) still part first) then)
+
 -- a part that has its value, and what comes behind it
 pub met_then : {T Q : Type 0} {A : Q → Type 0} {X Y : Type 0} (before middle after : Outside T Q A) (part : Asking Q A (Result X TraceFault)) (next : X → Asking Q A (Result Y TraceFault)) (value : X) (result : Result Y TraceFault)
     → Met before part (Ok value) middle → Met middle (next value) result after → Met before (and_ok part next) result after
@@ -162,6 +184,14 @@ met_then {X = X} before middle after part next value result first rest = record 
       (asked_first before part next) (λ path. asked_behind before middle part next value path first) first.learns
       rest.learns;
   covered = λ finished covers. rest.covered finished (first.covered (λ e. cc) covers);
+  still_kept = λ told tells question kept.
+      rest.still_kept told (first.told told tells) question (first.still_kept told tells question kept);
+  asked_kept = λ told tells found e.
+      kept_both told middle after (asked_to_end told.answers before.state part)
+      (asked_to_end told.answers middle.state (next value)) (asked_to_end told.answers before.state (and_ok part next))
+      (rest.still_kept told (first.told told tells))
+      (asked_front told before.state middle.state part next value (first.comes told tells ((λ e. cc), (λ e. cc))))
+      (first.asked_kept told tells value refl) (rest.asked_kept told (first.told told tells) found e);
 }
 
 -- a part that has none
@@ -179,6 +209,8 @@ met_failed {X = X} {Y = Y} before after part next fault first = record {
       (IsAskedBy before part) (IsAskedBy before (and_ok part next)) (λ e. (let f : fault ≡ Memory = cc in ap Err f))
       (asked_first before part next) first.learns;
   covered = λ finished covers. first.covered (λ e. finished (let f : fault ≡ Memory = cc in ap Err f)) covers;
+  still_kept = first.still_kept;
+  asked_kept = λ told tells value e. absurd (cc);
 }
 
 -- memory was wanting behind a part
@@ -196,6 +228,8 @@ met_lost {X = X} {Y = Y} before after part next value first = record {
       (IsAskedBy before part) (IsAskedBy before (and_ok part next)) (λ e. refl) (asked_first before part next)
       first.learns;
   covered = λ finished covers. absurd (finished refl);
+  still_kept = first.still_kept;
+  asked_kept = λ told tells value e. absurd (cc);
 }
 
 -- nothing is asked
@@ -210,6 +244,8 @@ met_now before value result given = record {
   steps = λ told tells. omega arith;
   learns = learns_nothing before.looks (result ≡ Err Memory) (IsAskedBy before (answered value));
   covered = λ finished covers. covers;
+  still_kept = λ told tells question kept. kept;
+  asked_kept = λ told tells found e. All-nil (before.is_kept told.stands);
 }
 
 -- and so does want of memory before anything was asked
@@ -224,12 +260,22 @@ met_memory {X = X} before whole = record {
   steps = λ told tells. omega arith;
   learns = learns_nothing before.looks (failed X Memory ≡ Err Memory) (IsAskedBy before whole);
   covered = λ finished covers. covers;
+  still_kept = λ told tells question kept. kept;
+  asked_kept = λ told tells value e. absurd (cc);
 }
 
 pub given_same : {X : Type 0} (value : X) → IsGiven (Ok value) (Ok value)
 given_same value = record { given = λ ne. refl; no_look = λ e. cc }
 
 -- ---- whatever the rest comes to, the whole does
+
+-- of what was asked so far, each answer is kept
+pub record AskedSoFar {T Q X : Type 0} {A : Q → Type 0} (told : Told T Q A) (before : Outside T Q A)
+    (whole : Asking Q A (Result X TraceFault)) (middle : Outside T Q A)
+    (rest : Asking Q A (Result X TraceFault)) : Type 0 where
+  pub front : List Q
+  pub split : asked_to_end told.answers before.state whole ≡ front ++ asked_to_end told.answers middle.state rest
+  pub kept : All (middle.is_kept told.stands) front
 
 pub record Left {T Q : Type 0} {A : Q → Type 0} {X : Type 0} (before : Outside T Q A) (whole : Asking Q A (Result X TraceFault)) (middle : Outside T Q A) (rest : Asking Q A (Result X TraceFault)) : Type 0 where
   pub same : (told : Told T Q A) → before.told told → evaluated told.answers before.state whole ≡ evaluated told.answers middle.state rest
@@ -243,9 +289,24 @@ pub record Left {T Q : Type 0} {A : Q → Type 0} {X : Type 0} (before : Outside
   pub learns : Learns before.looks middle.looks ⊥ (IsAskedBy before whole)
   pub covered : IsCovered before.looks → IsCovered middle.looks
   pub within : (path : List ℕ) → IsAskedBy middle rest path → IsAskedBy before whole path
+  pub still_kept :
+      (told : Told T Q A) → before.told told → (question : Q) → before.is_kept told.stands question
+      → middle.is_kept told.stands question
+  pub so_far : (told : Told T Q A) → before.told told → AskedSoFar told before whole middle rest
 
 pub left_begins : {T Q : Type 0} {A : Q → Type 0} {X : Type 0} (before : Outside T Q A) (whole : Asking Q A (Result X TraceFault)) → Left before whole before whole
-left_begins before whole = record { same = λ told tells. refl; told = λ told tells. tells; keeps = refl; quiet = refl; steps = λ told tells. omega arith; learns = learns_nothing before.looks ⊥ (IsAskedBy before whole); covered = λ covers. covers; within = λ path is. is }
+left_begins before whole = record {
+  same = λ told tells. refl;
+  told = λ told tells. tells;
+  keeps = refl;
+  quiet = refl;
+  steps = λ told tells. omega arith;
+  learns = learns_nothing before.looks ⊥ (IsAskedBy before whole);
+  covered = λ covers. covers;
+  within = λ path is. is;
+  still_kept = λ told tells question kept. kept;
+  so_far = λ told tells. record { front = []; split = refl; kept = All-nil (before.is_kept told.stands) };
+}
 
 pub left_completes : {T Q : Type 0} {A : Q → Type 0} {X : Type 0} (before middle after : Outside T Q A) (whole rest : Asking Q A (Result X TraceFault)) (result : Result X TraceFault)
     → Left before whole middle rest → Met middle rest result after → Met before whole result after
@@ -260,6 +321,12 @@ left_completes before middle after whole rest result left met = record {
   learns = learns_then before.looks middle.looks after.looks ⊥ (result ≡ Err Memory) (IsAskedBy before whole)
       (IsAskedBy middle rest) (IsAskedBy before whole) (λ e. e) (λ path is. is) left.within left.learns met.learns;
   covered = λ finished covers. met.covered finished (left.covered covers);
+  still_kept = λ told tells question kept.
+      met.still_kept told (left.told told tells) question (left.still_kept told tells question kept);
+  asked_kept = λ told tells value e. (let far = left.so_far told tells in
+      kept_both told middle after far.front (asked_to_end told.answers middle.state rest)
+      (asked_to_end told.answers before.state whole) (met.still_kept told (left.told told tells)) far.split far.kept
+      (met.asked_kept told (left.told told tells) value e));
 }
 
 pub left_goes : {T Q : Type 0} {A : Q → Type 0} {X Y : Type 0} (before middle later : Outside T Q A) (whole : Asking Q A (Result Y TraceFault)) (part : Asking Q A (Result X TraceFault)) (next : X → Asking Q A (Result Y TraceFault)) (value : X)
@@ -280,6 +347,21 @@ left_goes {X = X} before middle later whole part next value left met = record {
       (IsAskedBy middle part) (λ e. absurd (cc)) (λ path is. is) met.learns);
   covered = λ covers. met.covered (λ e. cc) (left.covered covers);
   within = λ path is. left.within path (asked_behind middle later part next value path met is);
+  still_kept = λ told tells question kept.
+      met.still_kept told (left.told told tells) question (left.still_kept told tells question kept);
+  so_far = λ told tells. (let far = left.so_far told tells in
+      let asked = asked_to_end told.answers middle.state part in
+      record {
+        front = far.front ++ asked;
+        split = far.split
+            ∙ (ap (λ more. far.front ++ more)
+            (asked_front told middle.state later.state part next value
+            (met.comes told (left.told told tells) ((λ e. cc), (λ e. cc))))
+            ∙ sym (append_assoc far.front asked (asked_to_end told.answers later.state (next value))));
+        kept = kept_both told middle later far.front asked (far.front ++ asked)
+            (met.still_kept told (left.told told tells)) refl far.kept
+            (met.asked_kept told (left.told told tells) value refl);
+      });
 }
 
 pub left_fails : {T Q : Type 0} {A : Q → Type 0} {X Y : Type 0} (before middle later : Outside T Q A) (whole : Asking Q A (Result Y TraceFault)) (part : Asking Q A (Result X TraceFault)) (next : X → Asking Q A (Result Y TraceFault)) (fault : TraceFault)

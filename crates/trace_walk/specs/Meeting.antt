@@ -1,9 +1,10 @@
 -- What is known of answers from outside, and what a call that asks for them comes to.
 --     Told T Q A                       answers, at which paths each question looks in each state until it ends or is
---                                      stopped, and whether it is fresh: the answer to another one is kept
+--                                      stopped, and whether it is fresh: the answer to another one is kept; and what
+--                                      stands at each path
 --     Outside T Q A                    which answers are those that are told; the state that they see; how many looks
 --                                      failed; how many steps were taken; what stays as it is; what was looked at, and
---                                      is known
+--                                      is known; and of which questions an answer is kept
 --     Kept                             what looks leave as it is
 --     fine asking                      an asking whose value is `Ok`
 --     IsTold result                    no failed look and no want of memory ended the call
@@ -11,18 +12,20 @@
 --     asked_to_end answers state asking    the questions that an evaluation asks until it ends or is stopped, in order
 --     fresh_to_end told state asking       the fresh ones among them
 --     Met before asking result after   the call comes to what the asking comes to, unless a look fails or memory is
---                                      wanting; it takes at most one step for each fresh question; and what it learns
---                                      of the folder
+--                                      wanting; it takes at most one step for each fresh question; what it learns of
+--                                      the folder; what is kept stays so, and where it ends well, an answer is kept of
+--                                      each question that it asked
 --     looks_to_end told state asking   the paths at which those questions look
 --     IsAskedBy before asking path     the questions that the asking asks until it ends or is stopped look at the path, by
 --                                      all answers that are told
 --     AnswererState                    the answers to the questions of a walk, which see a trail of looks
-use Rattle.std.specs.Prelude.{◌≡◌, ◌≢◌, ◌≤◌, ◌+◌, ℕ, Bool, List, [], ◌∷◌, length, filter, ◌++◌, Contains, Option}
+use Rattle.std.specs.Prelude.{◌≡◌, ◌≢◌, ◌≤◌, ◌+◌, ℕ, Bool, List, [], ◌∷◌, length, filter, ◌++◌, All, Contains, Option}
 use Rattle.std.specs.Prelude.{Result, Ok, Err}
 use Rattle.asking_spec.specs.Askings.{Asking, answered, ask, and_then}
 use Rattle.asking_spec.specs.Evaluation.{Ended, ends, stopped, Answers, evaluated}
 use Rattle.tree_spec.specs.declared.LimitName.{LimitName}
 use Rattle.tree_spec.specs.Counts.{Rose}
+use Rattle.tree_spec.specs.LookAskings.{Sights}
 use Rattle.tree_spec.specs.LookLimits.{Trail}
 use Rattle.tree_spec.specs.Trees.{Tree}
 use Rattle.trace_spec.specs.declared.TraceFault.{TraceFault}
@@ -32,9 +35,10 @@ use Rattle.trace_spec.specs.Traces.{result_of, state_of}
 use Rattle.package_lookup.specs.Answered.{State, IsCovered}
 use Rattle.package_lookup.specs.Learning.{Learns}
 
--- the references to what is outside, what that holds where it is told, and how many writes failed
+-- the references to what is outside, and names; what that holds where it is told, and how many writes failed
 pub record Kept : Type 0 where
   pub references : List ℕ
+  pub names : List (List ℕ)
   pub holds : Option Tree
   pub writes : ℕ
 
@@ -42,6 +46,7 @@ pub record Told (T Q : Type 0) (A : Q → Type 0) : Type 0 where
   pub answers : Answers T LimitName Q A
   pub looks : T → Q → List (List ℕ)
   pub fresh : Q → Bool
+  pub stands : Sights
 
 -- own: more than one answer can be told where what is known leaves more than one open
 pub record Outside (T Q : Type 0) (A : Q → Type 0) : Type 1 where
@@ -51,6 +56,7 @@ pub record Outside (T Q : Type 0) (A : Q → Type 0) : Type 1 where
   pub steps : ℕ
   pub keeps : Kept
   pub looks : State
+  pub is_kept : Sights → Q → Type 0
 
 abbrev pub fine : {Q : Type 0} {A : Q → Type 0} {X : Type 0} → Asking Q A X → Asking Q A (Result X TraceFault)
 fine asking = and_then asking (λ value. answered (Ok value))
@@ -104,6 +110,12 @@ pub record Met {T Q X : Type 0} {A : Q → Type 0} (before : Outside T Q A) (ask
       → after.steps ≤ before.steps + length (fresh_to_end told before.state asking)
   pub learns : Learns before.looks after.looks (result ≡ Err Memory) (IsAskedBy before asking)
   pub covered : result ≢ Err Memory → IsCovered before.looks → IsCovered after.looks
+  pub still_kept :
+      (told : Told T Q A) → before.told told → (question : Q) → before.is_kept told.stands question
+      → after.is_kept told.stands question
+  pub asked_kept :
+      (told : Told T Q A) → before.told told → (value : X) → result ≡ Ok value
+      → All (after.is_kept told.stands) (asked_to_end told.answers before.state asking)
 
 abbrev pub AnswererState : Type 1
 AnswererState = Outside Trail Question Answer

@@ -39,6 +39,7 @@ pub fn walk<A: Answerer>(
     requires ready { A.ready answerer.old }
     ensures met { Met (A.state answerer.old) (trace config.now) (traced_of result) (A.state answerer.new) }
     ensures walked { IsWalked config.now result (A.state answerer.old).steps (A.state answerer.new).steps }
+    ensures ready { OnOk result (A.ready answerer.new) }
 {
     let mut tables = Tables::new(alloc);
     visit_page(alloc, answerer, config, &mut tables)?;

@@ -8,7 +8,6 @@ use Rattle.url_spec.specs.Parsing.{parse_alone, parse_against}
 use Rattle.url_spec.specs.Schemes.{scheme_of, url_scheme}
 use Rattle.url_spec.specs.Specifiers.{is_relative, as_url}
 use Rattle.web_url.specs.Asking.{scheme_named}
-use Rattle.web_url.specs.declared.specifier.Scheme.{Scheme}
 use Rattle.web_url.specs.declared.specifier.Scheme.TheVariants.{NotUrl}
 
 pub relative_url : (base text : List ℕ) (found : Option (List ℕ)) → is_relative text ≡ true → found ≡ parse_against base text → found ≡ as_url base text

@@ -1,12 +1,11 @@
 -- The URLs of paths, and relative texts that are joined to them.
-use Rattle.std.proofs.Common.{◌≡◌, ◌≢◌, ◌<◌, ◌≤◌, ◌++◌, ◌∷◌, [], List, ℕ, Bool, true, false, Option, Some, None, All, length, drop, not, sym, refl, ap, ◌∙◌, subst, codes, IsAscii, arith}
+use Rattle.std.proofs.Common.{◌≡◌, ◌≢◌, ◌<◌, ◌≤◌, ◌++◌, ◌∷◌, [], List, ℕ, Bool, true, false, Option, Some, None, length, drop, sym, ap, ◌∙◌, subst, codes, IsAscii, arith}
 use Rattle.std.specs.List.{list_all}
-use Rattle.std.specs.Prelude.{Result, Ok, Err, IfOk, IfSome, ◌&&◌}
+use Rattle.std.specs.Prelude.{Result, Ok, Err, IfOk, IfSome, MatchOption}
 use Rattle.std.proofs.lemmas.Bool.{and_parts}
 use Rattle.std.proofs.lemmas.List.Elements.{All-weaker}
 use Rattle.std.proofs.lemmas.Str.Ascii.{IsAscii-from_all}
 use Rattle.tree_spec.specs.Paths.{IsPath, IsParent, joined}
-use Rattle.url.specs.Parts.{Parts}
 use Rattle.url.proofs.InputLemmas.{Passes, All_from_list_all}
 use Rattle.url_spec.proofs.FileJoins.{file_joins}
 use Rattle.url_spec.proofs.FileUrls.{file_urls}
@@ -14,7 +13,7 @@ use Rattle.url_spec.proofs.OwnTexts.{ascii_urls}
 use Rattle.url_spec.proofs.PlainTexts.{path_small, plain_passes}
 use Rattle.url_spec.specs.FileJoins.{IsFolderOf, LeadsTo, below, up}
 use Rattle.url_spec.specs.FileUrls.{file_text, names_host, url_path}
-use Rattle.url_spec.specs.Parsing.{IsUrl, parse_against, parse_alone, text_of}
+use Rattle.url_spec.specs.Parsing.{IsUrl, parse_against}
 use Rattle.url_spec.specs.WebNames.{is_plain}
 use Rattle.web_url.specs.Joins.{IsJoinIn, IsShortJoin}
 use Rattle.web_url.specs.Kept.{IsNamed}
@@ -31,15 +30,18 @@ named_text text path lent folder is same =
     record { text = same; ascii = ascii_urls text url; is_url = url }
 
 pub named_no_host : (text path : List ℕ) (folder : Bool) → IsNamed text path folder → false ≡ names_host text
-named_no_host text path folder is = sym (ap names_host is.spelled ∙ (file_urls path folder is.is_path is.bytes).1.0)
+named_no_host text path folder is = sym (ap names_host is.spelled ∙ (file_urls path folder is.is_path is.bytes).1)
 
 -- its text is that of its path behind `file://`
 pub named_split : (text path : List ℕ) (folder : Bool) → IsNamed text path folder → text ≡ codes "file://" ++ url_path text
 named_split text path folder is =
-    is.spelled ∙ ((file_urls path folder is.is_path is.bytes).1.1 ∙ ap (λ t. codes "file://" ++ url_path t) (sym is.spelled))
+    is.spelled ∙ ((file_urls path folder is.is_path is.bytes).2 ∙ ap (λ t. codes "file://" ++ url_path t) (sym is.spelled))
 
 pub named_path : (text path : List ℕ) (folder : Bool) → IsNamed text path folder → drop 7 text ≡ url_path text
 named_path text path folder is = ap (drop 7) (named_split text path folder is)
+
+pub named_long : (text path : List ℕ) (folder : Bool) → IsNamed text path folder → 7 ≤ length text
+named_long text path folder is = omega (arith, ap length (named_split text path folder is))
 
 pub ruleset named = (named_text, named_no_host)
 
@@ -84,5 +86,12 @@ led_up above parent text more (Err e) split is leads = tt
 led_up above parent text more (Ok None) split is leads = tt
 led_up above parent text more (Ok (Some target)) split is leads = up parent above text more target split is leads
 
-pub led_here : (above text target : List ℕ) → above ≢ codes "/" → list_all is_plain text ≡ true → (target ≡ joined above text) × IsPath (joined above text) → LeadsTo above text target
+led_here : (above text target : List ℕ) → above ≢ codes "/" → list_all is_plain text ≡ true → (target ≡ joined above text) × IsPath (joined above text) → LeadsTo above text target
 led_here above text target other plain both = below above text target other plain both.0 (subst IsPath (sym both.0) both.1)
+
+pub led_below : {E : Type 0} (above text : List ℕ) (r : Result (Option (List ℕ)) E) → above ≢ codes "/" → list_all is_plain text ≡ true
+    → IfOk r (λ found. MatchOption found (IsPath (joined above text) → ⊥) (λ path. (path ≡ joined above text) × IsPath (joined above text)))
+    → IfOk r (λ found. IfSome found (LeadsTo above text))
+led_below above text (Err e) other plain joins = tt
+led_below above text (Ok None) other plain joins = tt
+led_below above text (Ok (Some target)) other plain joins = led_here above text target other plain joins

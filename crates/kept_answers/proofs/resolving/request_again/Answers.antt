@@ -1,75 +1,159 @@
-use Rattle.std.proofs.Common.{Ok, refl, ap, ◌∙◌}
-use Rattle.tree_spec.specs.LookLimits.{begun}
-use Rattle.package_lookup.specs.Answered.{state}
+use Rattle.std.proofs.Common.{Some, Ok, refl, ap, ◌∙◌}
+use Rattle.package_lookup.specs.Lookups.{begun_of, state_of}
 use Rattle.package_lookup.proofs.Questions.{given_as}
 use Rattle.kept_answers.proofs.Certifying.{kept_looks, given_again, failed_again, behind_looks, lost, seen_again, seen_other, failing_of, to_failing, node_failing}
+use Rattle.node_resolve.specs.declared.fault.NodeFault.TheVariants.{Memory}
 use Rattle.node_resolve.specs.Places.{module_of}
 use Rattle.node_resolve.specs.Responses.{responded}
 use Rattle.node_spec.specs.EsmResolve.{node}
+use Rattle.kept_answers.proofs.FreshSteps.{none_taken, other_again, other_taken}
+use Rattle.kept_answers.proofs.SharedFootprints.{no_footprint, footprint_again}
 use Rattle.kept_answers.proofs.RequestLemmas.{is_kept}
+use Rattle.kept_answers.specs.Entries.{is_request}
+use Rattle.kept_answers.specs.Freshness.{request_looks}
+use Rattle.kept_answers.proofs.SeenNow.{found_before, stays_before, again_now, stays_as, stays_put, now_put, same_request}
 use Rattle.kept_answers.proofs.resolving.request_again.Goals as goal
 
 pub returns-in-Err-clause-answered : goal.returns-in-Err-clause-answered
 returns-in-Err-clause-answered g c =
-    node_failing (state (g.F.Folder.state c.args.folder.now) c.args.known.now (begun c.args.trail.now))
-    (state (g.F.Folder.state c.look_again.new.folder) c.look_again.new.known c.look_again.new.trail)
-    (node c.args.conditions.now c.args.parent.now c.args.specifier.now) c.in-Err.fault c.fault_of.result
+    node_failing (begun_of g.F.Folder.state c.args.lookup.now)
+    (state_of g.F.Folder.state c.look_again.new.lookup)
+    (node c.args.request.conditions.now c.args.request.parent.now c.args.request.specifier.now) c.in-Err.fault c.fault_of.result
     c.fault_of.ensures
-    (failed_again (node c.args.conditions.now c.args.parent.now c.args.specifier.now) (Ok (module_of c.args.found.now.found.value))
-    c.as_slice.result.now (state (g.F.Folder.state c.args.folder.now) c.args.known.now c.args.trail.now)
-    (kept_looks (g.F.Folder.state c.args.folder.now).holds
-    (node c.args.conditions.now c.args.parent.now c.args.specifier.now) (Ok (module_of c.args.found.now.found.value))
+    (failed_again (node c.args.request.conditions.now c.args.request.parent.now c.args.request.specifier.now) (Ok (module_of c.args.found.now.found.value))
+    c.as_slice.result.now (state_of g.F.Folder.state c.args.lookup.now)
+    (kept_looks (g.F.Folder.state c.args.lookup.now.folder.now).holds
+    (node c.args.request.conditions.now c.args.request.parent.now c.args.request.specifier.now) (Ok (module_of c.args.found.now.found.value))
     c.args.found.now.looks.value c.as_slice.result.now (c.as_slice.ensures ∙ c.deref.ensures)
-    (is_kept (g.F.Folder.state c.args.folder.now).holds c.args.conditions.now c.args.conditions.now c.args.parent.now
-    c.args.specifier.now c.args.request c.args.found.now refl c.requires.request c.requires.right))
-    (failing_of c.in-Err.fault) (state (g.F.Folder.state c.look_again.new.folder) c.look_again.new.known c.look_again.new.trail)
-    (to_failing (state (g.F.Folder.state c.args.folder.now) c.args.known.now c.args.trail.now)
-    (state (g.F.Folder.state c.look_again.new.folder) c.look_again.new.known c.look_again.new.trail) c.as_slice.result.now c.in-Err.fault c.in-Err.ensures))
+    (is_kept (g.F.Folder.state c.args.lookup.now.folder.now).holds c.args.request.conditions.now c.args.request.conditions.now c.args.request.parent.now
+    c.args.request.specifier.now c.args.key c.args.found.now refl c.requires.key c.requires.right))
+    (failing_of c.in-Err.fault) (state_of g.F.Folder.state c.look_again.new.lookup)
+    (to_failing (state_of g.F.Folder.state c.args.lookup.now)
+    (state_of g.F.Folder.state c.look_again.new.lookup) c.as_slice.result.now c.in-Err.fault c.in-Err.ensures.again))
 
 pub returns-in-Err-keep_again-clause-answered : goal.returns-in-Err-keep_again-clause-answered
 returns-in-Err-keep_again-clause-answered g c =
-    lost (state (g.F.Folder.state c.args.folder.now) c.args.known.now (begun c.args.trail.now))
-    (state (g.F.Folder.state c.look_again.new.folder) c.look_again.new.known c.look_again.new.trail)
-    (node c.args.conditions.now c.args.parent.now c.args.specifier.now) (Ok (module_of c.args.found.now.found.value))
-    (given_again (node c.args.conditions.now c.args.parent.now c.args.specifier.now) (Ok (module_of c.args.found.now.found.value))
-    c.as_slice.result.now (state (g.F.Folder.state c.args.folder.now) c.args.known.now c.args.trail.now)
-    (kept_looks (g.F.Folder.state c.args.folder.now).holds
-    (node c.args.conditions.now c.args.parent.now c.args.specifier.now) (Ok (module_of c.args.found.now.found.value))
+    lost (begun_of g.F.Folder.state c.args.lookup.now)
+    (state_of g.F.Folder.state c.look_again.new.lookup)
+    (node c.args.request.conditions.now c.args.request.parent.now c.args.request.specifier.now) (Ok (module_of c.args.found.now.found.value))
+    (given_again (node c.args.request.conditions.now c.args.request.parent.now c.args.request.specifier.now) (Ok (module_of c.args.found.now.found.value))
+    c.as_slice.result.now (state_of g.F.Folder.state c.args.lookup.now)
+    (kept_looks (g.F.Folder.state c.args.lookup.now.folder.now).holds
+    (node c.args.request.conditions.now c.args.request.parent.now c.args.request.specifier.now) (Ok (module_of c.args.found.now.found.value))
     c.args.found.now.looks.value c.as_slice.result.now (c.as_slice.ensures ∙ c.deref.ensures)
-    (is_kept (g.F.Folder.state c.args.folder.now).holds c.args.conditions.now c.args.conditions.now c.args.parent.now
-    c.args.specifier.now c.args.request c.args.found.now refl c.requires.request c.requires.right))
-    (state (g.F.Folder.state c.look_again.new.folder) c.look_again.new.known c.look_again.new.trail)
-    (seen_again (state (g.F.Folder.state c.args.folder.now) c.args.known.now c.args.trail.now)
-    (state (g.F.Folder.state c.look_again.new.folder) c.look_again.new.known c.look_again.new.trail) c.as_slice.result.now c.in-Ok-true.field-0 c.in-Ok-true.field-0-test c.in-Ok-true.ensures))
+    (is_kept (g.F.Folder.state c.args.lookup.now.folder.now).holds c.args.request.conditions.now c.args.request.conditions.now c.args.request.parent.now
+    c.args.request.specifier.now c.args.key c.args.found.now refl c.requires.key c.requires.right))
+    (state_of g.F.Folder.state c.look_again.new.lookup)
+    (seen_again (state_of g.F.Folder.state c.args.lookup.now)
+    (state_of g.F.Folder.state c.look_again.new.lookup) c.as_slice.result.now c.in-Ok-true.field-0 c.in-Ok-true.field-0-test c.in-Ok-true.ensures.again))
 
 pub returns-in-Ok-clause-answered : goal.returns-in-Ok-clause-answered
 returns-in-Ok-clause-answered g c =
-    given_as (state (g.F.Folder.state c.args.folder.now) c.args.known.now (begun c.args.trail.now))
-    (state (g.F.Folder.state c.look_again.new.folder) c.look_again.new.known c.look_again.new.trail)
-    (node c.args.conditions.now c.args.parent.now c.args.specifier.now) (Ok (module_of c.args.found.now.found.value))
+    given_as (begun_of g.F.Folder.state c.args.lookup.now)
+    (state_of g.F.Folder.state c.look_again.new.lookup)
+    (node c.args.request.conditions.now c.args.request.parent.now c.args.request.specifier.now) (Ok (module_of c.args.found.now.found.value))
     (Ok (module_of c.in-Ok.own.value)) (ap (λ f. Ok (module_of f)) c.in-Ok.ensures.found)
-    (given_again (node c.args.conditions.now c.args.parent.now c.args.specifier.now) (Ok (module_of c.args.found.now.found.value))
-    c.as_slice.result.now (state (g.F.Folder.state c.args.folder.now) c.args.known.now c.args.trail.now)
-    (kept_looks (g.F.Folder.state c.args.folder.now).holds
-    (node c.args.conditions.now c.args.parent.now c.args.specifier.now) (Ok (module_of c.args.found.now.found.value))
+    (given_again (node c.args.request.conditions.now c.args.request.parent.now c.args.request.specifier.now) (Ok (module_of c.args.found.now.found.value))
+    c.as_slice.result.now (state_of g.F.Folder.state c.args.lookup.now)
+    (kept_looks (g.F.Folder.state c.args.lookup.now.folder.now).holds
+    (node c.args.request.conditions.now c.args.request.parent.now c.args.request.specifier.now) (Ok (module_of c.args.found.now.found.value))
     c.args.found.now.looks.value c.as_slice.result.now (c.as_slice.ensures ∙ c.deref.ensures)
-    (is_kept (g.F.Folder.state c.args.folder.now).holds c.args.conditions.now c.args.conditions.now c.args.parent.now
-    c.args.specifier.now c.args.request c.args.found.now refl c.requires.request c.requires.right))
-    (state (g.F.Folder.state c.look_again.new.folder) c.look_again.new.known c.look_again.new.trail)
-    (seen_again (state (g.F.Folder.state c.args.folder.now) c.args.known.now c.args.trail.now)
-    (state (g.F.Folder.state c.look_again.new.folder) c.look_again.new.known c.look_again.new.trail) c.as_slice.result.now c.in-Ok-true.field-0 c.in-Ok-true.field-0-test c.in-Ok-true.ensures))
+    (is_kept (g.F.Folder.state c.args.lookup.now.folder.now).holds c.args.request.conditions.now c.args.request.conditions.now c.args.request.parent.now
+    c.args.request.specifier.now c.args.key c.args.found.now refl c.requires.key c.requires.right))
+    (state_of g.F.Folder.state c.look_again.new.lookup)
+    (seen_again (state_of g.F.Folder.state c.args.lookup.now)
+    (state_of g.F.Folder.state c.look_again.new.lookup) c.as_slice.result.now c.in-Ok-true.field-0 c.in-Ok-true.field-0-test c.in-Ok-true.ensures.again))
 
 pub returns-in-Ok-false-clause-answered : goal.returns-in-Ok-false-clause-answered
 returns-in-Ok-false-clause-answered g c =
-    behind_looks (node c.args.conditions.now c.args.parent.now c.args.specifier.now) (Ok (module_of c.args.found.now.found.value))
-    c.as_slice.result.now (state (g.F.Folder.state c.args.folder.now) c.args.known.now c.args.trail.now)
-    (kept_looks (g.F.Folder.state c.args.folder.now).holds
-    (node c.args.conditions.now c.args.parent.now c.args.specifier.now) (Ok (module_of c.args.found.now.found.value))
+    behind_looks (node c.args.request.conditions.now c.args.request.parent.now c.args.request.specifier.now) (Ok (module_of c.args.found.now.found.value))
+    c.as_slice.result.now (state_of g.F.Folder.state c.args.lookup.now)
+    (kept_looks (g.F.Folder.state c.args.lookup.now.folder.now).holds
+    (node c.args.request.conditions.now c.args.request.parent.now c.args.request.specifier.now) (Ok (module_of c.args.found.now.found.value))
     c.args.found.now.looks.value c.as_slice.result.now (c.as_slice.ensures ∙ c.deref.ensures)
-    (is_kept (g.F.Folder.state c.args.folder.now).holds c.args.conditions.now c.args.conditions.now c.args.parent.now
-    c.args.specifier.now c.args.request c.args.found.now refl c.requires.request c.requires.right))
-    (state (g.F.Folder.state c.look_again.new.folder) c.look_again.new.known c.look_again.new.trail)
-    (seen_other (state (g.F.Folder.state c.args.folder.now) c.args.known.now c.args.trail.now)
-    (state (g.F.Folder.state c.look_again.new.folder) c.look_again.new.known c.look_again.new.trail) c.as_slice.result.now c.in-Ok-false.field-0 c.in-Ok-false.field-0-test c.in-Ok-false.ensures)
+    (is_kept (g.F.Folder.state c.args.lookup.now.folder.now).holds c.args.request.conditions.now c.args.request.conditions.now c.args.request.parent.now
+    c.args.request.specifier.now c.args.key c.args.found.now refl c.requires.key c.requires.right))
+    (state_of g.F.Folder.state c.look_again.new.lookup)
+    (seen_other (state_of g.F.Folder.state c.args.lookup.now)
+    (state_of g.F.Folder.state c.look_again.new.lookup) c.as_slice.result.now c.in-Ok-false.field-0 c.in-Ok-false.field-0-test c.in-Ok-false.ensures.again)
     (responded (λ found. module_of found.value) c.request_anew.result)
-    (state (g.F.Folder.state c.request_anew.new.folder) c.request_anew.new.known c.request_anew.new.trail) c.request_anew.ensures.answered
+    (state_of g.F.Folder.state c.request_anew.new.lookup) c.request_anew.ensures.answered
+
+pub returns-in-Err-clause-fresh : goal.returns-in-Err-clause-fresh
+returns-in-Err-clause-fresh g c =
+    none_taken (g.F.Folder.state c.args.lookup.now.folder.now) c.args.lookup.now.known.now (Some c.args.found.now.looks.value) c.args.steps.now
+    c.args.steps.now refl
+
+pub returns-in-Err-keep_again-clause-fresh : goal.returns-in-Err-keep_again-clause-fresh
+returns-in-Err-keep_again-clause-fresh g c =
+    none_taken (g.F.Folder.state c.args.lookup.now.folder.now) c.args.lookup.now.known.now (Some c.args.found.now.looks.value) c.args.steps.now
+    c.args.steps.now refl
+
+pub returns-in-Ok-clause-fresh : goal.returns-in-Ok-clause-fresh
+returns-in-Ok-clause-fresh g c =
+    none_taken (g.F.Folder.state c.args.lookup.now.folder.now) c.args.lookup.now.known.now (Some c.args.found.now.looks.value) c.args.steps.now
+    c.args.steps.now refl
+
+pub returns-in-Ok-false-clause-fresh : goal.returns-in-Ok-false-clause-fresh
+returns-in-Ok-false-clause-fresh g c =
+    other_taken (state_of g.F.Folder.state c.args.lookup.now)
+    (state_of g.F.Folder.state c.look_again.new.lookup) c.args.found.now.looks.value
+    c.as_slice.result.now c.args.steps.now c.request_anew.new.steps (c.as_slice.ensures ∙ c.deref.ensures)
+    (other_again (state_of g.F.Folder.state c.args.lookup.now)
+    (state_of g.F.Folder.state c.look_again.new.lookup) c.as_slice.result.now c.in-Ok-false.field-0 c.in-Ok-false.field-0-test c.in-Ok-false.ensures.again)
+    c.request_anew.ensures.cost
+
+pub returns-in-Ok-clause-footprint : goal.returns-in-Ok-clause-footprint
+returns-in-Ok-clause-footprint g c =
+    footprint_again (state_of g.F.Folder.state c.args.lookup.now)
+    (state_of g.F.Folder.state c.look_again.new.lookup)
+    c.args.request.conditions.now c.args.request.parent.now c.args.request.specifier.now c.args.key c.args.found.now c.as_slice.result.now
+    c.in-Ok.own (c.as_slice.ensures ∙ c.deref.ensures) c.requires.key c.in-Ok.ensures.found c.requires.right
+    (seen_again (state_of g.F.Folder.state c.args.lookup.now)
+    (state_of g.F.Folder.state c.look_again.new.lookup) c.as_slice.result.now c.in-Ok-true.field-0 c.in-Ok-true.field-0-test c.in-Ok-true.ensures.again)
+
+pub returns-in-Err-clause-footprint : goal.returns-in-Err-clause-footprint
+returns-in-Err-clause-footprint g c =
+    no_footprint (g.F.Folder.state c.args.lookup.now.folder.now) c.args.lookup.now.known.now
+    (node c.args.request.conditions.now c.args.request.parent.now c.args.request.specifier.now) c.fault_of.result
+
+pub returns-in-Err-keep_again-clause-footprint : goal.returns-in-Err-keep_again-clause-footprint
+returns-in-Err-keep_again-clause-footprint g c =
+    no_footprint (g.F.Folder.state c.args.lookup.now.folder.now) c.args.lookup.now.known.now
+    (node c.args.request.conditions.now c.args.request.parent.now c.args.request.specifier.now) Memory
+
+pub returns-in-Err-clause-still : goal.returns-in-Err-clause-still
+returns-in-Err-clause-still g c = λ other. stays_as (state_of g.F.Folder.state c.args.lookup.now) _ _ refl
+
+pub returns-in-Err-keep_again-clause-still : goal.returns-in-Err-keep_again-clause-still
+returns-in-Err-keep_again-clause-still g c = λ other.
+    stays_as (state_of g.F.Folder.state c.args.lookup.now) _ _ (c.in-Err-keep_again.ensures.unset other)
+
+pub returns-in-Ok-clause-kept : goal.returns-in-Ok-clause-kept
+returns-in-Ok-clause-kept g c =
+    now_put (state_of g.F.Folder.state c.args.lookup.now) is_request c.args.key c.args.found.now.looks.value (request_looks c.args.next.now)
+    (request_looks c.keep_again.new.next) c.in-Ok.ensures.set
+    (again_now (state_of g.F.Folder.state c.args.lookup.now) (state_of g.F.Folder.state c.look_again.new.lookup) c.args.found.now.looks.value c.as_slice.result.now (c.as_slice.ensures ∙ c.deref.ensures)
+    (seen_again (state_of g.F.Folder.state c.args.lookup.now)
+    (state_of g.F.Folder.state c.look_again.new.lookup) c.as_slice.result.now c.in-Ok-true.field-0 c.in-Ok-true.field-0-test c.in-Ok-true.ensures.again))
+    c.args.key (same_request c.args.key)
+
+pub returns-in-Ok-clause-still : goal.returns-in-Ok-clause-still
+returns-in-Ok-clause-still g c =
+    stays_put (state_of g.F.Folder.state c.args.lookup.now) is_request c.args.key c.args.found.now.looks.value (request_looks c.args.next.now)
+    (request_looks c.keep_again.new.next) c.in-Ok.ensures.set
+    (again_now (state_of g.F.Folder.state c.args.lookup.now) (state_of g.F.Folder.state c.look_again.new.lookup) c.args.found.now.looks.value c.as_slice.result.now (c.as_slice.ensures ∙ c.deref.ensures)
+    (seen_again (state_of g.F.Folder.state c.args.lookup.now)
+    (state_of g.F.Folder.state c.look_again.new.lookup) c.as_slice.result.now c.in-Ok-true.field-0 c.in-Ok-true.field-0-test c.in-Ok-true.ensures.again))
+
+pub returns-in-Ok-false-clause-kept : goal.returns-in-Ok-false-clause-kept
+returns-in-Ok-false-clause-kept g c =
+    let to = (seen_other (state_of g.F.Folder.state c.args.lookup.now)
+    (state_of g.F.Folder.state c.look_again.new.lookup) c.as_slice.result.now c.in-Ok-false.field-0 c.in-Ok-false.field-0-test c.in-Ok-false.ensures.again) in
+    found_before c.request_anew.result (state_of g.F.Folder.state c.args.lookup.now) (state_of g.F.Folder.state c.look_again.new.lookup) _ to.answered _ c.request_anew.ensures.kept
+
+pub returns-in-Ok-false-clause-still : goal.returns-in-Ok-false-clause-still
+returns-in-Ok-false-clause-still g c =
+    let to = (seen_other (state_of g.F.Folder.state c.args.lookup.now)
+    (state_of g.F.Folder.state c.look_again.new.lookup) c.as_slice.result.now c.in-Ok-false.field-0 c.in-Ok-false.field-0-test c.in-Ok-false.ensures.again) in
+    λ other. stays_before (state_of g.F.Folder.state c.args.lookup.now) (state_of g.F.Folder.state c.look_again.new.lookup) _ to.answered _ _ (c.request_anew.ensures.still other)

@@ -1,67 +1,130 @@
-use Rattle.std.proofs.Common.{Ok, ap}
-use Rattle.tree_spec.specs.LookLimits.{begun}
-use Rattle.package_lookup.specs.Answered.{state}
+use Rattle.std.proofs.Common.{Some, Ok, refl, ap}
+use Rattle.package_lookup.specs.Lookups.{begun_of, state_of}
 use Rattle.package_lookup.specs.Responses.{looked}
 use Rattle.package_lookup.proofs.Questions.{given_as}
 use Rattle.kept_answers.proofs.Certifying.{kept_looks, given_again, failed_again, behind_looks, lost, seen_again, seen_other, failing_of, to_failing, by_failing}
 use Rattle.module_sources.specs.Shown.{source_in, source_of}
 use Rattle.trace_spec.specs.Questions.{module_source}
 use Rattle.kept_answers.specs.Entries.{source_seen}
+use Rattle.kept_answers.proofs.FreshSteps.{none_taken, other_again, other_taken}
 use Rattle.kept_answers.proofs.ModuleLemmas.{is_kept}
+use Rattle.std.specs.Prelude.{bytes_eq}
+use Rattle.kept_answers.specs.Freshness.{module_looks}
+use Rattle.kept_answers.proofs.SeenNow.{source_before, stays_before, again_now, stays_as, stays_put, now_put, same_path}
 use Rattle.kept_answers.proofs.sources.module_again.Goals as goal
 
 pub returns-in-Err-clause-answered : goal.returns-in-Err-clause-answered
 returns-in-Err-clause-answered g c =
-    by_failing (state (g.F.Folder.state c.args.folder.now) c.args.known.now (begun c.args.trail.now))
-    (state (g.F.Folder.state c.look_again.new.folder) c.look_again.new.known c.look_again.new.trail)
+    by_failing (begun_of g.F.Folder.state c.args.lookup.now)
+    (state_of g.F.Folder.state c.look_again.new.lookup)
     (module_source c.args.path.now) c.in-Err.fault
     (failed_again (module_source c.args.path.now) (Ok (source_seen c.args.found.now)) c.looks.result.now
-    (state (g.F.Folder.state c.args.folder.now) c.args.known.now c.args.trail.now)
-    (kept_looks (g.F.Folder.state c.args.folder.now).holds (module_source c.args.path.now) (Ok (source_seen c.args.found.now))
+    (state_of g.F.Folder.state c.args.lookup.now)
+    (kept_looks (g.F.Folder.state c.args.lookup.now.folder.now).holds (module_source c.args.path.now) (Ok (source_seen c.args.found.now))
     c.args.found.now.looks c.looks.result.now c.looks.ensures
-    (is_kept (g.F.Folder.state c.args.folder.now).holds c.args.path.now c.args.found.now c.requires.right))
-    (failing_of c.in-Err.fault) (state (g.F.Folder.state c.look_again.new.folder) c.look_again.new.known c.look_again.new.trail)
-    (to_failing (state (g.F.Folder.state c.args.folder.now) c.args.known.now c.args.trail.now)
-    (state (g.F.Folder.state c.look_again.new.folder) c.look_again.new.known c.look_again.new.trail) c.looks.result.now c.in-Err.fault c.in-Err.ensures))
+    (is_kept (g.F.Folder.state c.args.lookup.now.folder.now).holds c.args.path.now c.args.found.now c.requires.right))
+    (failing_of c.in-Err.fault) (state_of g.F.Folder.state c.look_again.new.lookup)
+    (to_failing (state_of g.F.Folder.state c.args.lookup.now)
+    (state_of g.F.Folder.state c.look_again.new.lookup) c.looks.result.now c.in-Err.fault c.in-Err.ensures.again))
 
 pub returns-in-Err-keep_again-clause-answered : goal.returns-in-Err-keep_again-clause-answered
 returns-in-Err-keep_again-clause-answered g c =
-    lost (state (g.F.Folder.state c.args.folder.now) c.args.known.now (begun c.args.trail.now))
-    (state (g.F.Folder.state c.look_again.new.folder) c.look_again.new.known c.look_again.new.trail)
+    lost (begun_of g.F.Folder.state c.args.lookup.now)
+    (state_of g.F.Folder.state c.look_again.new.lookup)
     (module_source c.args.path.now) (Ok (source_seen c.args.found.now))
     (given_again (module_source c.args.path.now) (Ok (source_seen c.args.found.now)) c.looks.result.now
-    (state (g.F.Folder.state c.args.folder.now) c.args.known.now c.args.trail.now)
-    (kept_looks (g.F.Folder.state c.args.folder.now).holds (module_source c.args.path.now) (Ok (source_seen c.args.found.now))
+    (state_of g.F.Folder.state c.args.lookup.now)
+    (kept_looks (g.F.Folder.state c.args.lookup.now.folder.now).holds (module_source c.args.path.now) (Ok (source_seen c.args.found.now))
     c.args.found.now.looks c.looks.result.now c.looks.ensures
-    (is_kept (g.F.Folder.state c.args.folder.now).holds c.args.path.now c.args.found.now c.requires.right))
-    (state (g.F.Folder.state c.look_again.new.folder) c.look_again.new.known c.look_again.new.trail)
-    (seen_again (state (g.F.Folder.state c.args.folder.now) c.args.known.now c.args.trail.now)
-    (state (g.F.Folder.state c.look_again.new.folder) c.look_again.new.known c.look_again.new.trail) c.looks.result.now c.in-Ok-true.field-0 c.in-Ok-true.field-0-test c.in-Ok-true.ensures))
+    (is_kept (g.F.Folder.state c.args.lookup.now.folder.now).holds c.args.path.now c.args.found.now c.requires.right))
+    (state_of g.F.Folder.state c.look_again.new.lookup)
+    (seen_again (state_of g.F.Folder.state c.args.lookup.now)
+    (state_of g.F.Folder.state c.look_again.new.lookup) c.looks.result.now c.in-Ok-true.field-0 c.in-Ok-true.field-0-test c.in-Ok-true.ensures.again))
 
 pub returns-in-Ok-clause-answered : goal.returns-in-Ok-clause-answered
 returns-in-Ok-clause-answered g c =
-    given_as (state (g.F.Folder.state c.args.folder.now) c.args.known.now (begun c.args.trail.now))
-    (state (g.F.Folder.state c.look_again.new.folder) c.look_again.new.known c.look_again.new.trail)
+    given_as (begun_of g.F.Folder.state c.args.lookup.now)
+    (state_of g.F.Folder.state c.look_again.new.lookup)
     (module_source c.args.path.now) (Ok (source_seen c.args.found.now)) (Ok (source_of c.in-Ok.source))
     (ap Ok c.in-Ok.ensures.source)
     (given_again (module_source c.args.path.now) (Ok (source_seen c.args.found.now)) c.looks.result.now
-    (state (g.F.Folder.state c.args.folder.now) c.args.known.now c.args.trail.now)
-    (kept_looks (g.F.Folder.state c.args.folder.now).holds (module_source c.args.path.now) (Ok (source_seen c.args.found.now))
+    (state_of g.F.Folder.state c.args.lookup.now)
+    (kept_looks (g.F.Folder.state c.args.lookup.now.folder.now).holds (module_source c.args.path.now) (Ok (source_seen c.args.found.now))
     c.args.found.now.looks c.looks.result.now c.looks.ensures
-    (is_kept (g.F.Folder.state c.args.folder.now).holds c.args.path.now c.args.found.now c.requires.right))
-    (state (g.F.Folder.state c.look_again.new.folder) c.look_again.new.known c.look_again.new.trail)
-    (seen_again (state (g.F.Folder.state c.args.folder.now) c.args.known.now c.args.trail.now)
-    (state (g.F.Folder.state c.look_again.new.folder) c.look_again.new.known c.look_again.new.trail) c.looks.result.now c.in-Ok-true.field-0 c.in-Ok-true.field-0-test c.in-Ok-true.ensures))
+    (is_kept (g.F.Folder.state c.args.lookup.now.folder.now).holds c.args.path.now c.args.found.now c.requires.right))
+    (state_of g.F.Folder.state c.look_again.new.lookup)
+    (seen_again (state_of g.F.Folder.state c.args.lookup.now)
+    (state_of g.F.Folder.state c.look_again.new.lookup) c.looks.result.now c.in-Ok-true.field-0 c.in-Ok-true.field-0-test c.in-Ok-true.ensures.again))
 
 pub returns-in-Ok-false-clause-answered : goal.returns-in-Ok-false-clause-answered
 returns-in-Ok-false-clause-answered g c =
     behind_looks (module_source c.args.path.now) (Ok (source_seen c.args.found.now)) c.looks.result.now
-    (state (g.F.Folder.state c.args.folder.now) c.args.known.now c.args.trail.now)
-    (kept_looks (g.F.Folder.state c.args.folder.now).holds (module_source c.args.path.now) (Ok (source_seen c.args.found.now))
+    (state_of g.F.Folder.state c.args.lookup.now)
+    (kept_looks (g.F.Folder.state c.args.lookup.now.folder.now).holds (module_source c.args.path.now) (Ok (source_seen c.args.found.now))
     c.args.found.now.looks c.looks.result.now c.looks.ensures
-    (is_kept (g.F.Folder.state c.args.folder.now).holds c.args.path.now c.args.found.now c.requires.right))
-    (state (g.F.Folder.state c.look_again.new.folder) c.look_again.new.known c.look_again.new.trail)
-    (seen_other (state (g.F.Folder.state c.args.folder.now) c.args.known.now c.args.trail.now)
-    (state (g.F.Folder.state c.look_again.new.folder) c.look_again.new.known c.look_again.new.trail) c.looks.result.now c.in-Ok-false.field-0 c.in-Ok-false.field-0-test c.in-Ok-false.ensures)
+    (is_kept (g.F.Folder.state c.args.lookup.now.folder.now).holds c.args.path.now c.args.found.now c.requires.right))
+    (state_of g.F.Folder.state c.look_again.new.lookup)
+    (seen_other (state_of g.F.Folder.state c.args.lookup.now)
+    (state_of g.F.Folder.state c.look_again.new.lookup) c.looks.result.now c.in-Ok-false.field-0 c.in-Ok-false.field-0-test c.in-Ok-false.ensures.again)
     (looked source_in c.module_anew.result)
-    (state (g.F.Folder.state c.module_anew.new.folder) c.module_anew.new.known c.module_anew.new.trail) c.module_anew.ensures.answered
+    (state_of g.F.Folder.state c.module_anew.new.lookup) c.module_anew.ensures.answered
+
+pub returns-in-Err-clause-fresh : goal.returns-in-Err-clause-fresh
+returns-in-Err-clause-fresh g c =
+    none_taken (g.F.Folder.state c.args.lookup.now.folder.now) c.args.lookup.now.known.now (Some c.args.found.now.looks) c.args.steps.now
+    c.args.steps.now refl
+
+pub returns-in-Err-keep_again-clause-fresh : goal.returns-in-Err-keep_again-clause-fresh
+returns-in-Err-keep_again-clause-fresh g c =
+    none_taken (g.F.Folder.state c.args.lookup.now.folder.now) c.args.lookup.now.known.now (Some c.args.found.now.looks) c.args.steps.now
+    c.args.steps.now refl
+
+pub returns-in-Ok-clause-fresh : goal.returns-in-Ok-clause-fresh
+returns-in-Ok-clause-fresh g c =
+    none_taken (g.F.Folder.state c.args.lookup.now.folder.now) c.args.lookup.now.known.now (Some c.args.found.now.looks) c.args.steps.now
+    c.args.steps.now refl
+
+pub returns-in-Ok-false-clause-fresh : goal.returns-in-Ok-false-clause-fresh
+returns-in-Ok-false-clause-fresh g c =
+    other_taken (state_of g.F.Folder.state c.args.lookup.now)
+    (state_of g.F.Folder.state c.look_again.new.lookup) c.args.found.now.looks
+    c.looks.result.now c.args.steps.now c.module_anew.new.steps c.looks.ensures
+    (other_again (state_of g.F.Folder.state c.args.lookup.now)
+    (state_of g.F.Folder.state c.look_again.new.lookup) c.looks.result.now c.in-Ok-false.field-0 c.in-Ok-false.field-0-test c.in-Ok-false.ensures.again)
+    c.module_anew.ensures.cost
+
+pub returns-in-Err-clause-still : goal.returns-in-Err-clause-still
+returns-in-Err-clause-still g c = λ other. stays_as (state_of g.F.Folder.state c.args.lookup.now) _ _ refl
+
+pub returns-in-Err-keep_again-clause-still : goal.returns-in-Err-keep_again-clause-still
+returns-in-Err-keep_again-clause-still g c = λ other.
+    stays_as (state_of g.F.Folder.state c.args.lookup.now) _ _ (c.in-Err-keep_again.ensures.unset other)
+
+pub returns-in-Ok-clause-kept : goal.returns-in-Ok-clause-kept
+returns-in-Ok-clause-kept g c =
+    now_put (state_of g.F.Folder.state c.args.lookup.now) bytes_eq c.args.path.now c.args.found.now.looks (module_looks c.args.next.now)
+    (module_looks c.keep_again.new.next) c.in-Ok.ensures.set
+    (again_now (state_of g.F.Folder.state c.args.lookup.now) (state_of g.F.Folder.state c.look_again.new.lookup) c.args.found.now.looks c.looks.result.now c.looks.ensures
+    (seen_again (state_of g.F.Folder.state c.args.lookup.now)
+    (state_of g.F.Folder.state c.look_again.new.lookup) c.looks.result.now c.in-Ok-true.field-0 c.in-Ok-true.field-0-test c.in-Ok-true.ensures.again))
+    c.args.path.now (same_path c.args.path.now)
+
+pub returns-in-Ok-clause-still : goal.returns-in-Ok-clause-still
+returns-in-Ok-clause-still g c =
+    stays_put (state_of g.F.Folder.state c.args.lookup.now) bytes_eq c.args.path.now c.args.found.now.looks (module_looks c.args.next.now)
+    (module_looks c.keep_again.new.next) c.in-Ok.ensures.set
+    (again_now (state_of g.F.Folder.state c.args.lookup.now) (state_of g.F.Folder.state c.look_again.new.lookup) c.args.found.now.looks c.looks.result.now c.looks.ensures
+    (seen_again (state_of g.F.Folder.state c.args.lookup.now)
+    (state_of g.F.Folder.state c.look_again.new.lookup) c.looks.result.now c.in-Ok-true.field-0 c.in-Ok-true.field-0-test c.in-Ok-true.ensures.again))
+
+pub returns-in-Ok-false-clause-kept : goal.returns-in-Ok-false-clause-kept
+returns-in-Ok-false-clause-kept g c =
+    let to = (seen_other (state_of g.F.Folder.state c.args.lookup.now)
+    (state_of g.F.Folder.state c.look_again.new.lookup) c.looks.result.now c.in-Ok-false.field-0 c.in-Ok-false.field-0-test c.in-Ok-false.ensures.again) in
+    source_before c.module_anew.result (state_of g.F.Folder.state c.args.lookup.now) (state_of g.F.Folder.state c.look_again.new.lookup) _ to.answered _ c.module_anew.ensures.kept
+
+pub returns-in-Ok-false-clause-still : goal.returns-in-Ok-false-clause-still
+returns-in-Ok-false-clause-still g c =
+    let to = (seen_other (state_of g.F.Folder.state c.args.lookup.now)
+    (state_of g.F.Folder.state c.look_again.new.lookup) c.looks.result.now c.in-Ok-false.field-0 c.in-Ok-false.field-0-test c.in-Ok-false.ensures.again) in
+    λ other. stays_before (state_of g.F.Folder.state c.args.lookup.now) (state_of g.F.Folder.state c.look_again.new.lookup) _ to.answered _ _ (c.module_anew.ensures.still other)

@@ -13,17 +13,6 @@ use Rattle.request_trace.proofs.JoinedTables.{traces_lost, as_trace, takes_trace
 use Rattle.request_trace.proofs.NamedModules.{named_at_base}
 use Rattle.request_trace.proofs.folder_trace.trace.Goals as goal
 
-pub returns-in_err-base-clause-traces : goal.returns-in_err-base-clause-traces
-returns-in_err-base-clause-traces g c =
-    let before = g.F.Folder.state c.args.folder.now in
-    subst (λ (r : Result Traced TraceFault). Traces c.args.config.now before c.args.known.now (gathered_of r) before c.args.known.now)
-    (sym (handed c.from_residual.result Memory c.from_residual.ensures.1))
-    (traces_nothing c.args.config.now before c.args.known.now)
-
-pub returns-in_err-base-clause-asked : goal.returns-in_err-base-clause-asked
-returns-in_err-base-clause-asked g c =
-    takes_nothing (g.F.Folder.state c.args.folder.now).holds c.args.known.now c.args.config.now c.args.steps.now
-
 pub returns-in_err-trace-clause-traces : goal.returns-in_err-trace-clause-traces
 returns-in_err-trace-clause-traces g c =
     let before = g.F.Folder.state c.args.folder.now in
@@ -43,7 +32,7 @@ returns-clause-footprint g c =
     (sym c.in_ok-trace.ensures.footprint) c.in_ok-tables.ensures.footprint
 
 pub returns-clause-entries : goal.returns-clause-entries
-returns-clause-entries g c = c.in_ok-trace.ensures.entries ∙ ap length c.entries.ensures.entries
+returns-clause-entries g c = c.in_ok-trace.ensures.entries
 
 pub returns-clause-steps : goal.returns-clause-steps
 returns-clause-steps g c = record {
@@ -51,18 +40,5 @@ returns-clause-steps g c = record {
   bounded = c.in_ok-tables.ensures.traces.steps.bounded;
 }
 
-pub of-requires-clause-named : goal.of-requires-clause-named
-of-requires-clause-named g c =
-    named_at_base c.args.config.now c.in_ok-base.base c.in_ok-tables.tables.modules.entries
-    (c.in_ok-base.ensures ∙ c.base.ensures) c.in_ok-tables.ensures.traces.tables.named
-
-pub of-requires-clause-whole : goal.of-requires-clause-whole
-of-requires-clause-whole g c = c.in_ok-tables.ensures.traces.tables.whole
-
-pub of-requires-clause-counted : goal.of-requires-clause-counted
-of-requires-clause-counted g c =
-    c.in_ok-tables.ensures.traces.tables.counted
-    ∙ ap (λ n. n + module_requests (before_of c.in_ok-tables.tables).sources) (sym (ap length c.entries.ensures.entries))
-
-pub of-requires-clause-beside : goal.of-requires-clause-beside
-of-requires-clause-beside g c = c.in_ok-tables.ensures.traces.tables.beside
+pub trace_of-requires : goal.trace_of-requires
+trace_of-requires g c = c.in_ok-tables.ensures.traces.tables

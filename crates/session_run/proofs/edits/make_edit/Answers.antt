@@ -1,4 +1,5 @@
-use Rattle.session_run.proofs.EditLemmas.{accepted_seen, accepted_asks, stopped_seen, stopped_asks}
+use Rattle.std.proofs.Common.{Ok, Err}
+use Rattle.session_run.proofs.EditLemmas.{few_steps, accepted_seen, accepted_asks, stopped_seen, stopped_asks}
 use Rattle.session_run.proofs.edits.make_edit.Goals as goal
 
 pub accept-requires : goal.accept-requires
@@ -6,7 +7,7 @@ accept-requires g c = c.in-Ok.ensures.prepares.pending
 
 pub returns-in-Ok-clause-edits : goal.returns-in-Ok-clause-edits
 returns-in-Ok-clause-edits g c view is =
-    accepted_seen (g.F.Folder.state c.args.folder.now) (g.F.Folder.state c.prepare.new.folder) c.args.session.now c.prepare.new.self c.args.edit.now view c.args.steps.now c.prepare.new.steps c.in-Ok.ensures.steps.bounded is
+    accepted_seen (g.F.Folder.state c.args.folder.now) (g.F.Folder.state c.prepare.new.folder) c.args.session.now c.prepare.new.self c.args.edit.now view c.args.steps.now c.prepare.new.steps (few_steps (g.F.Folder.state c.args.folder.now) (g.F.Folder.state c.prepare.new.folder) c.args.session.now c.prepare.new.self c.args.edit.now (Ok tt) c.args.steps.now c.prepare.new.steps c.in-Ok.ensures.prepares c.in-Ok.ensures.steps) is
     c.accept.new.session c.in-Ok.ensures.prepares c.accept.ensures.commits c.accept.result c.accept.ensures.says
 
 pub returns-in-Ok-clause-asks : goal.returns-in-Ok-clause-asks
@@ -16,7 +17,7 @@ returns-in-Ok-clause-asks g c references =
 
 pub returns-in-Err-clause-edits : goal.returns-in-Err-clause-edits
 returns-in-Err-clause-edits g c view is =
-    stopped_seen (g.F.Folder.state c.args.folder.now) (g.F.Folder.state c.prepare.new.folder) c.args.session.now c.prepare.new.self c.args.edit.now view c.args.steps.now c.prepare.new.steps c.in-Err.ensures.steps.bounded is
+    stopped_seen (g.F.Folder.state c.args.folder.now) (g.F.Folder.state c.prepare.new.folder) c.args.session.now c.prepare.new.self c.args.edit.now view c.args.steps.now c.prepare.new.steps (few_steps (g.F.Folder.state c.args.folder.now) (g.F.Folder.state c.prepare.new.folder) c.args.session.now c.prepare.new.self c.args.edit.now (Err c.in-Err.stop) c.args.steps.now c.prepare.new.steps c.in-Err.ensures.prepares c.in-Err.ensures.steps) is
     c.in-Err.stop c.stopped.result c.in-Err.ensures.prepares c.stopped.ensures
 
 pub returns-in-Err-clause-asks : goal.returns-in-Err-clause-asks

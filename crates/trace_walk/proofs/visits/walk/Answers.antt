@@ -1,5 +1,8 @@
-use Rattle.std.proofs.Common.{Ok, Err, length, rules, sym, ap, subst, arith}
+use Rattle.std.proofs.Common.{Result, Ok, Err, length, rules, sym, ap, subst, arith}
+use Rattle.std.specs.Prelude.{OnOk}
 use Rattle.std.proofs.lemmas.List.Elements.{All-nil}
+use Rattle.trace_spec.specs.declared.TraceFault.{TraceFault}
+use Rattle.trace_walk.specs.declared.tables.Tables.{Tables}
 use Rattle.trace_spec.specs.Traces.{trace}
 use Rattle.trace_spec.specs.Modules.{Module}
 use Rattle.trace_walk.specs.declared.tables.Name.{Name}
@@ -73,3 +76,17 @@ returns-in_err-visit_modules-clause-walked g c =
     let few = c.in_ok-visit_page.ensures.walks.advances.grows.requests (omega (arith, begins)) in
     let all = c.in_err-visit_modules.ensures.walks.bounded few in
     walk_refused c.args.config.now _ _ c.in_err-visit_modules.field-0.0 c.from_residual-in_err-visit_modules.result c.from_residual-in_err-visit_modules.ensures.1 (omega (arith, begins, page, all)) c.in_err-visit_modules.ensures.walks.kind
+
+pub returns-clause-ready : goal.returns-clause-ready
+returns-clause-ready g c = c.in_ok-visit_modules.ensures.walks.advances.ready
+
+pub returns-in_err-visit_page-clause-ready : goal.returns-in_err-visit_page-clause-ready
+returns-in_err-visit_page-clause-ready g c =
+    subst (λ (r : Result Tables TraceFault). OnOk r (g.A.Answerer.ready c.visit_page.new.answerer))
+    (sym (handed c.from_residual.result c.in_err-visit_page.field-0.0 c.from_residual.ensures.1)) tt
+
+pub returns-in_err-visit_modules-clause-ready : goal.returns-in_err-visit_modules-clause-ready
+returns-in_err-visit_modules-clause-ready g c =
+    subst (λ (r : Result Tables TraceFault). OnOk r (g.A.Answerer.ready c.visit_modules.new.answerer))
+    (sym (handed c.from_residual-in_err-visit_modules.result c.in_err-visit_modules.field-0.0
+    c.from_residual-in_err-visit_modules.ensures.1)) tt

@@ -1,6 +1,6 @@
 use Rattle.std.proofs.Common.{◌∙◌, sym}
 use Rattle.edit_session.specs.SessionParts.{parts, pending_over}
-use Rattle.edit_session.proofs.SessionCalls.{not_prepared, prepared, prepared_empty}
+use Rattle.edit_session.proofs.SessionCalls.{has_changes, not_prepared, prepared, prepared_empty}
 use Rattle.edit_session.proofs.session.Session.prepare.Goals as goal
 
 pub returns-then-is_empty-clause-prepares : goal.returns-then-is_empty-clause-prepares
@@ -15,7 +15,8 @@ returns-in-Err-clause-prepares g c =
     not_prepared (g.F.Folder.state c.args.folder.now) (g.F.Folder.state c.next.new.folder) c.args.self.now
     (parts c.next.new.looks.known c.next.new.config c.args.self.now.generated) c.args.edit.now c.put_back.new.self
     c.put_back.ensures.known c.put_back.ensures.config
-    (c.put_back.ensures.generated ∙ c.take_looks-looks.ensures.generated) c.in-Err.stop c.put_back.ensures.pending
+    (c.put_back.ensures.generated ∙ c.take_looks-looks.ensures.generated)
+    (has_changes c.args.edit.now (sym c.is_empty.ensures ∙ c.if-is_empty.false)) c.in-Err.stop c.put_back.ensures.pending
     (rw (c.in-Err.is, c.take_looks-looks.ensures.known, c.take_looks-looks.ensures.config)
     at (c.next.ensures.makes c.args.self.now.generated))
 
@@ -25,6 +26,7 @@ returns-in-Ok-clause-prepares g c =
     (parts c.next.new.looks.known c.next.new.config c.args.self.now.generated) c.args.edit.now c.put_pending.new.self
     c.put_pending.ensures.known c.put_pending.ensures.config
     (c.put_pending.ensures.generated ∙ c.take_looks-looks.ensures.generated)
+    (has_changes c.args.edit.now (sym c.is_empty.ensures ∙ c.if-is_empty.false))
     (pending_over c.next.new.looks.over c.in-Ok.made) c.put_pending.ensures.pending
     (rw (c.in-Ok.is, c.take_looks-looks.ensures.known, c.take_looks-looks.ensures.config)
     at (c.next.ensures.makes c.args.self.now.generated))

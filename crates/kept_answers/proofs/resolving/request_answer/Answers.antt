@@ -1,8 +1,0 @@
-use Rattle.node_spec.specs.EsmResolve.{node}
-use Rattle.kept_answers.proofs.Certifying.{no_memory_begun}
-use Rattle.kept_answers.proofs.resolving.request_answer.Goals as goal
-
-pub returns-in-Err-clause-answered : goal.returns-in-Err-clause-answered
-returns-in-Err-clause-answered g c =
-    no_memory_begun (g.F.Folder.state c.args.folder.now) c.args.known.now c.args.trail.now c.begin.new.self
-    (node c.args.conditions.now c.args.parent.now c.args.specifier.now) c.begin.ensures

@@ -1,0 +1,55 @@
+ghost use Rattle.std.specs.Prelude.{◌≡◌, IfOk};
+ghost use Rattle.kept_trace.specs.Ready.{IsEmptyUnder};
+
+use condition_match::Conditions;
+use kept_answers::{KeptModules, KeptRequests};
+use shared_types::Memory;
+use std::alloc::Global;
+use std::mem;
+
+/// What is kept of a walk's answers: the sources of modules, and where requests lead under some conditions.
+#[derive(Drop)]
+pub struct Kept {
+    pub(crate) modules: KeptModules,
+    pub(crate) requests: KeptRequests,
+}
+
+impl Kept {
+    /// Nothing is kept.
+    pub fn new(alloc: Global, conditions: &Conditions) -> Result<Kept, Memory>
+        ensures { IfOk result (IsEmptyUnder conditions.now) }
+    {
+        Ok(Kept {
+            modules: KeptModules::new(alloc),
+            requests: KeptRequests::new(alloc, conditions)?,
+        })
+    }
+}
+
+/// What is kept of the answers of a walk, and what is kept for the next one.
+#[derive(Drop)]
+pub struct Answers {
+    pub(crate) kept: Kept,
+    pub(crate) next: Kept,
+}
+
+impl Answers {
+    /// Nothing is kept.
+    pub fn new(alloc: Global, conditions: &Conditions) -> Result<Answers, Memory>
+        ensures kept { IfOk result (λ answers. IsEmptyUnder conditions.now answers.kept) }
+        ensures next { IfOk result (λ answers. IsEmptyUnder conditions.now answers.next) }
+    {
+        Ok(Answers {
+            kept: Kept::new(alloc, conditions)?,
+            next: Kept::new(alloc, conditions)?,
+        })
+    }
+
+    /// What was kept for the next walk is what is kept, and the other way round.
+    pub fn exchange(&mut self)
+        ensures kept { self.new.kept ≡ self.old.next }
+        ensures next { self.new.next ≡ self.old.kept }
+    {
+        mem::swap(&mut self.kept, &mut self.next);
+    }
+}
