@@ -1,5 +1,5 @@
 -- What a reader took, one take after another.
-use Rattle.std.proofs.Common.{◌≡◌, ◌<◌, ◌≤◌, ◌+◌, ◌++◌, ◌∷◌, [], ℕ, List, length, Option, Some, None, Result, Ok, Err, refl, sym, ap, ◌∙◌, subst, inl, inr, arith}
+use Rattle.std.proofs.Common.{◌≡◌, ◌<◌, ◌≤◌, ◌+◌, ◌++◌, ◌∷◌, [], ℕ, List, length, Option, Some, None, Result, Ok, Err, refl, sym, ap, ◌∙◌, subst, inr, arith}
 use Rattle.std.proofs.lemmas.List.{append-nil, append_assoc, length-append}
 use Rattle.std.specs.Prelude.{IfSome}
 use Rattle.tree_spec.specs.Counts.{Rose}
@@ -12,7 +12,7 @@ use Rattle.session_input.specs.declared.reading.InputFault.{InputFault}
 use Rattle.session_input.specs.declared.reading.InputFault.TheVariants.{ReadFault, Memory}
 use Rattle.session_input.specs.declared.reading.Reading.{Reading}
 use Rattle.session_input.specs.declared.reading.Reading.TheVariants as reading
-use Rattle.session_input.specs.Readers.{Waiting, Grows, IsPiece, Brings, BringsNothing, BringsBeyond, FailsToBring, LosesPiece}
+use Rattle.session_input.specs.Readers.{Waiting, Grows, Brings, BringsNothing, BringsBeyond, FailsToBring, LosesPiece}
 use Rattle.session_input.specs.Readers.{Stays, ReadsAs, IsWithin, IsBeyond, Reads, FaultsBy, IsNeeded, ReadsNext, GoesOn, Gains}
 
 -- ---- takes

@@ -45,8 +45,8 @@ none_or_same pending none same = (let no : None ≡ Some Same = sym none ∙ sam
 
 pub few_steps : (before after : FolderState) (old new : Session) (edit : List Change) (result : Result (Unit {0}) EditStop) (spent spent_after : ℕ) → Prepares before old edit result after new
     → TakesSteps result (λ done. pending_steps new) spent spent_after → spent_after ≤ spent + generations edit * most_steps
-few_steps before after old new [] (Ok tt) spent spent_after prepares takes =
-    few_by_none spent spent_after most_steps (let few = subst (λ (pending : Option Prepared). spent_after ≤ spent + steps_in pending) (prepares.same.0 refl) takes.counted in omega (arith, few))
+few_steps before after old new [] (Ok done) spent spent_after prepares takes =
+    few_by_none spent spent_after most_steps (let few : spent_after ≤ spent + 0 = subst (λ (pending : Option Prepared). spent_after ≤ spent + steps_in pending) (prepares.same.0 refl) takes.counted in omega (arith, few))
 few_steps before after old new [] (Err stop) spent spent_after prepares takes = absurd (none_or_same new.pending prepares.nothing_pending (prepares.same.0 refl))
 few_steps before after old new (change ∷ more) result spent spent_after prepares takes = subst (λ (n : ℕ). spent_after ≤ spent + n) (sym (one-mul most_steps)) takes.bounded
 

@@ -1,19 +1,17 @@
 -- Before the last take a session was open, and so it was before each take.
-use Rattle.std.proofs.Common.{◌≡◌, ◌≤◌, ◌<◌, ◌⊎◌, ◌++◌, ◌∷◌, [], ℕ, List, length, Option, Some, None, refl, sym, ap, ◌∙◌, subst, inl, inr, arith}
+use Rattle.std.proofs.Common.{◌≡◌, ◌≤◌, ◌⊎◌, ◌++◌, ◌∷◌, [], ℕ, List, length, Option, Some, None, refl, sym, ap, ◌∙◌, subst, inl, inr, arith}
 use Rattle.std.proofs.lemmas.Bool.{cases_lt}
 use Rattle.std.proofs.lemmas.List.{append-nil, append_assoc, length-append, take_at}
 use Rattle.std.proofs.Math.Seq.{take-append-add}
 use Rattle.std.specs.Prelude.{◌+◌, ◌-◌, take, option_map}
-use Rattle.tree_spec.specs.Limits.{limit_number}
 use Rattle.tree_spec.specs.States.{SourceState}
-use Rattle.tree_spec.specs.declared.LimitName.TheVariants.{Session}
 use Rattle.session_spec.specs.declared.Change.{Change}
 use Rattle.session_spec.specs.Conversations.{Turn, makes, holds, shows, ends, refuses, stops, turn_at}
 use Rattle.session_spec.specs.Laws.{NoTakeBehindEnd}
 use Rattle.session_spec.specs.SessionLines.{Rest}
 use Rattle.session_spec.specs.SessionSteps.{MakesEdits, generations}
 use Rattle.session_spec.specs.SessionSteps as spending
-use Rattle.session_spec.specs.TakenInput.{LastBrought, NoTake, LastTake, TakesWhile, LeavesOpen}
+use Rattle.session_spec.specs.TakenInput.{LastBrought, NoTake, TakesWhile, LeavesOpen}
 use Rattle.session_spec.proofs.Conversing.{turn_on}
 use Rattle.session_spec.proofs.LinesWhole.{turn_in}
 
