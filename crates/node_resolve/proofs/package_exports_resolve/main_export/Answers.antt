@@ -15,12 +15,12 @@ returns-in-List c =
     gives_as itself _ _ c.whole_export-in-List.result (main_list c.args.conditions.now c.args.package_folder.now (json_of c.args.exports.now.value) _ (ap json_of c.in-List.is ∙ json_of_list _))
     c.whole_export-in-List.ensures
 
-pub returns-then-has_dotted : goal.returns-then-has_dotted
-returns-then-has_dotted c =
+pub returns-then-exports : goal.returns-then-exports
+returns-then-exports c =
     gives_as itself _ _ c.dot_export.result (main_dotted c.args.conditions.now c.args.package_folder.now (json_of c.args.exports.now.value) _ (ap json_of c.in-Object.is ∙ json_of_object _)
-    (sym (c.requires.indexed _ (ap json_of c.in-Object.is ∙ json_of_object _)).has_dotted ∙ c.if-has_dotted.true)) c.dot_export.ensures
+    (sym (c.requires.indexed _ (ap json_of c.in-Object.is ∙ json_of_object _)).has_dotted ∙ c.if-exports.true)) c.dot_export.ensures
 
-pub returns-else-has_dotted : goal.returns-else-has_dotted
-returns-else-has_dotted c =
-    gives_as itself _ _ c.whole_export-else-has_dotted.result (main_plain c.args.conditions.now c.args.package_folder.now (json_of c.args.exports.now.value) _ (ap json_of c.in-Object.is ∙ json_of_object _)
-    (sym (c.requires.indexed _ (ap json_of c.in-Object.is ∙ json_of_object _)).has_dotted ∙ c.if-has_dotted.false)) c.whole_export-else-has_dotted.ensures
+pub returns-else-exports : goal.returns-else-exports
+returns-else-exports c =
+    gives_as itself _ _ c.whole_export-else-exports.result (main_plain c.args.conditions.now c.args.package_folder.now (json_of c.args.exports.now.value) _ (ap json_of c.in-Object.is ∙ json_of_object _)
+    (sym (c.requires.indexed _ (ap json_of c.in-Object.is ∙ json_of_object _)).has_dotted ∙ c.if-exports.false)) c.whole_export-else-exports.ensures
