@@ -1,0 +1,157 @@
+#!/usr/bin/env python3
+"""Processor minutes of the gate, by crate.
+
+`docs/minutes.py run FILE [WORDS..]` runs `rt ci WORDS..` at the top of the repository in the current folder, looks twice a second at
+what processes it has and how much processor time each took, and writes what it saw to FILE. `docs/minutes.py table FILE [BEFORE]`
+prints the table of architecture.md: of FILE, and beside it the sums of an earlier run.
+
+Proofs: the building of libraries and programs. Tests: the building of `#[test]` functions. Edits: what must-fail edits took, with
+the checks that they begin with. Runs: programs and tests that were run. What a process took after the last look at it is missing;
+the whole, which the system counts exactly, is told below the table.
+"""
+import json
+import os
+import re
+import subprocess
+import sys
+import time
+
+TICKS = os.sysconf('SC_CLK_TCK')
+KINDS = ('proofs', 'tests', 'edits', 'runs')
+
+
+def read_stat(pid):
+    """a process's parent, birth, own seconds, and those of the children it waited for"""
+    with open(f'/proc/{pid}/stat', encoding='utf8', errors='replace') as file:
+        fields = file.read().rsplit(')', 1)[1].split()
+    times = [int(it) / TICKS for it in fields[11:15]]
+    return int(fields[1]), fields[19], times[0] + times[1], times[2] + times[3]
+
+
+def processes():
+    """all processes that are there"""
+    found = {}
+    for name in filter(str.isdigit, os.listdir('/proc')):
+        try:
+            found[int(name)] = read_stat(name)
+        except OSError:
+            pass
+    return found
+
+
+def below(root, found):
+    """the processes below one, each behind its parent"""
+    children = {}
+    for pid, (parent, *_) in found.items():
+        children.setdefault(parent, []).append(pid)
+    left = list(children.get(root, []))
+    while left:
+        pid = left.pop(0)
+        left += children.get(pid, [])
+        yield pid
+
+
+def classify(pid, above):
+    """the crate and the kind of a process: that of what started it, if this has one"""
+    if above:
+        return above
+    try:
+        with open(f'/proc/{pid}/cmdline', encoding='utf8', errors='replace') as file:
+            words = file.read().split('\0')
+        folder = os.readlink(f'/proc/{pid}/cwd')
+    except OSError:
+        return None
+    crate = words[words.index('--crate-name') + 1] if '--crate-name' in words else None
+    if crate:
+        is_edit = not re.search(rf'/crates/{crate}$', folder)
+        return crate, 'edits' if is_edit else 'tests' if '--test' in words else 'proofs'
+    ran = re.search(r'/crates/(\w+)/', ' '.join([*words, folder + '/']))
+    return (ran[1], 'runs') if ran else None
+
+
+def sample(runner):
+    """what each process of the run took, until it ends; and the exact whole"""
+    seen, whole = {}, 0
+    while runner.poll() is None:
+        found = processes()
+        if runner.pid in found:
+            whole = sum(found[runner.pid][2:])
+        for pid in below(runner.pid, found):
+            parent, born, own, _ = found[pid]
+            above = next((it['of'] for key, it in seen.items() if key[0] == parent and it['of']), None)
+            kept = seen.setdefault((pid, born), {'of': classify(pid, above), 'own': 0})
+            kept['of'] = kept['of'] or classify(pid, above)
+            kept['own'] = own
+        time.sleep(1.5)
+    return seen, whole
+
+
+def run(file, words):
+    """runs the gate and writes the seconds by crate and kind"""
+    began = time.monotonic()
+    with subprocess.Popen(['rt', 'ci', *words]) as runner:
+        seen, whole = sample(runner)
+    rows, other = {}, 0
+    for it in seen.values():
+        if it['of']:
+            crate, kind = it['of']
+            row = rows.setdefault(crate, dict.fromkeys(KINDS, 0))
+            row[kind] += it['own']
+        else:
+            other += it['own']
+    told = {'clock': time.monotonic() - began, 'whole': whole, 'other': other, 'rows': rows, 'status': runner.returncode}
+    with open(file, 'w', encoding='utf8') as out:
+        json.dump(told, out, indent=1, sort_keys=True)
+    return runner.returncode
+
+
+def sums(told):
+    """the minutes of each kind, over all crates"""
+    return {kind: sum(row[kind] for row in told['rows'].values()) / 60 for kind in KINDS}
+
+
+def minutes(seconds):
+    """as the table shows it; nothing for what took nothing"""
+    return f'{seconds / 60:.1f}' if seconds >= 3 else ''
+
+
+def table(file, before):
+    """prints the table, and the sums of an earlier run beside its own"""
+    told = [json.load(open(it, encoding='utf8')) for it in (file, before) if it]
+    print('Crate|Proofs|Tests|Edits|Runs\n---|---|---|---|---')
+    for crate, row in sorted(told[0]['rows'].items(), key=lambda it: -sum(it[1].values())):
+        print(f'`{crate}`|' + '|'.join(minutes(row[kind]) for kind in KINDS))
+    for name, it in zip(('together', 'before'), told):
+        print(f'{name}|' + '|'.join(f'{sums(it)[kind]:.0f}' for kind in KINDS))
+    for name, it in zip(('This run', 'The one before'), told):
+        print(f'\n{name}: {it["whole"] / 60:.0f} processor minutes as the system counts them, {it["clock"] / 60:.0f} by the clock.')
+
+
+def main(words):
+    """run FILE WORDS.. or table FILE [BEFORE]"""
+    if len(words) >= 2 and words[0] == 'run':
+        return run(words[1], words[2:])
+    if 2 <= len(words) <= 3 and words[0] == 'table':
+        table(words[1], words[2] if len(words) == 3 else None)
+        return 0
+    print(__doc__, file=sys.stderr)
+    return 2
+
+
+
+class Runner:
+    def __init__(self, pid): self.pid, self.returncode = pid, None
+    def poll(self): return None if os.path.exists(f'/proc/{self.pid}') else 0
+
+def attach(pid, file):
+    began = time.monotonic()
+    seen, whole = sample(Runner(pid))
+    rows, other = {}, 0
+    for it in seen.values():
+        if it['of']:
+            crate, kind = it['of']
+            rows.setdefault(crate, dict.fromkeys(KINDS, 0))[kind] += it['own']
+        else: other += it['own']
+    json.dump({'clock': time.monotonic() - began, 'whole': whole, 'other': other, 'rows': rows}, open(file, 'w'), indent=1, sort_keys=True)
+
+attach(int(sys.argv[1]), sys.argv[2])
