@@ -24,7 +24,7 @@ use Rattle.trace_spec.proofs.Traces as laws
 use Rattle.trace_walk.specs.Meeting.{asked_then, asked_to_end, Met}
 use Rattle.trace_walk.specs.Shown.{traced_of, before_of}
 use Rattle.trace_walk.specs.declared.tables.Tables.{Tables}
-use Rattle.request_trace.specs.Answering.{Freshness, Keeping, Stays, told_by, answers_of}
+use Rattle.request_trace.specs.Answering.{Freshness, Keeping, Stays, told_by, ToldBy, answers_of}
 use Rattle.kept_trace.specs.Keeping.{IsUnder, IsGivenBy, keeps, KeepsTraced}
 use Rattle.kept_trace.specs.declared.kept.Kept.{Kept}
 use Rattle.kept_trace.proofs.Telling.{answers_always, with_told}
@@ -90,7 +90,7 @@ module _ (sights : Sights) (config : Config) (later : Kept) (names : later.reque
   good_requests referrer (specifier ∷ more) all =
       let here = All-head IsThere (leads sights config referrer specifier) (map (leads sights config referrer) more) all in
       All-cons Good (asking_at config referrer specifier) (map (asking_at config referrer) more)
-      (names, here.0, ok_of (always sights (asking_at config referrer specifier)) here.0 here.1)
+      (names, (here.0, ok_of (always sights (asking_at config referrer specifier)) here.0 here.1))
       (good_requests referrer more
       (All-tail IsThere (leads sights config referrer specifier) (map (leads sights config referrer) more) all))
 
@@ -111,7 +111,7 @@ module _ (sights : Sights) (config : Config) (later : Kept) (names : later.reque
       (asked_in sights config (map a_module modules))
       (All-append Good (opening (a_module m)) (requests_of (a_module m))
       (All-cons Good (of_module m.path) []
-      (tt, here.0, ok_of (always sights (of_module m.path)) here.0 here.1) (All-nil Good))
+      (tt, (here.0, ok_of (always sights (of_module m.path)) here.0 here.1)) (All-nil Good))
       (good_requests (a_module m) (specifiers sights config (a_module m))
       (first_all IsThere (led_of (a_module m)) rest led)))
       (good_modules modules (All-tail IsThere (source sights m) (map (source sights) modules) there)
@@ -146,7 +146,8 @@ module _ (is_fresh later_fresh : Freshness) (keeping : Keeping) (stays others : 
       with_told before.folder.holds
       (λ tree holds sights sees names question among.
       let told = told_by is_fresh sights in
-      let tells = record { tree = tree; sights = sights; holds = holds; sees = sees; are = refl } in
+      let tells : ToldBy is_fresh before.folder before.known (told_by is_fresh sights) =
+      record { tree = tree; sights = sights; holds = holds; sees = sees; are = refl } in
       let one = met.comes told tells ((λ e. cc), (λ e. cc)) in
       let ended = ended_ok (evaluated (answers sights) before.trail (trace config)) all after.trail one.is one.leaves in
       let asked = asked_as_questions (answers sights) (always sights) (answers_always sights) (trace config)

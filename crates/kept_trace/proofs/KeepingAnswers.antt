@@ -90,7 +90,10 @@ module _ (before : State) (next : Kept) where
         → keeps next sights question → keeps with_modules sights question} before.folder.holds
         (λ tree each sights sees question kept.
         module_still sights (λ path. each path sights sees) question kept)
-        (if_each before.folder.holds still)
+        (if_each
+        (λ path tree. (sights : Sights) → Sees tree before.known sights
+        → is_fresh sights (module_looks next.modules path) ≡ false → is_fresh sights (module_looks modules path) ≡ false)
+        before.folder.holds still)
 
   module _ (requests : KeptRequests) (named : requests.names ≡ next.requests.names)
       (still : (request : Request)
@@ -120,7 +123,10 @@ module _ (before : State) (next : Kept) where
         → keeps next sights question → keeps with_requests sights question} before.folder.holds
         (λ tree each sights sees question kept.
         request_still sights (λ request. each request sights sees) question kept)
-        (if_each before.folder.holds still)
+        (if_each
+        (λ request tree. (sights : Sights) → Sees tree before.known sights
+        → is_fresh sights (request_looks next.requests request) ≡ false
+        → is_fresh sights (request_looks requests request) ≡ false) before.folder.holds still)
 
 -- ---- an answer is kept, where one is given
 

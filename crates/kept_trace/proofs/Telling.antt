@@ -17,10 +17,10 @@ with_told (Some x) each = each x refl
 pub told_so : {A : Type 0} (P : A → Type 0) (told : Option A) (x : A) → told ≡ Some x → IfSome told P → P x
 told_so P told x same is = subst (λ t. IfSome t P) same is
 
-pub if_each : {A K : Type 0} {P : K → A → Type 0} (told : Option A) → ((key : K) → IfSome told (P key))
+pub if_each : {A K : Type 0} (P : K → A → Type 0) (told : Option A) → ((key : K) → IfSome told (P key))
     → IfSome told (λ x. (key : K) → P key x)
-if_each None each = tt
-if_each (Some x) each = each
+if_each P None each = tt
+if_each P (Some x) each = each
 
 pub answers_always : (sights : Sights) → AreAlways (answers sights) (always sights)
 answers_always sights trail after question answer e =
