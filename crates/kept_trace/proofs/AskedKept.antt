@@ -142,22 +142,24 @@ module _ (is_fresh later_fresh : Freshness) (keeping : Keeping) (stays others : 
       → Met (answers_of is_fresh keeping stays taken before) (trace config) (Ok all)
       (answers_of later_fresh (keeps later) others spent after)
       → KeepsTraced config before.folder before.known later
-  kept_of all first met =
-      with_told before.folder.holds
-      (λ tree holds sights sees names question among.
-      let told = told_by is_fresh sights in
-      let tells : ToldBy is_fresh before.folder before.known (told_by is_fresh sights) =
-      record { tree = tree; sights = sights; holds = holds; sees = sees; are = refl } in
-      let one = met.comes told tells ((λ e. cc), (λ e. cc)) in
-      let ended = ended_ok (evaluated (answers sights) before.trail (trace config)) all after.trail one.is one.leaves in
-      let asked = asked_as_questions (answers sights) (always sights) (answers_always sights) (trace config)
-      before.trail after.trail (Ok all) ended in
-      let is : traced sights config ≡ Ok all =
-      ap (λ trail. result_of (evaluated (answers sights) trail (trace config))) (sym first) ∙ one.is in
-      let kept = subst (All (keeps later sights)) asked (met.asked_kept told tells all refl) in
-      let good = All-contains (Good sights config later names) (questions (always sights) (trace config)) question
-      (all_given sights config later names all is) among in
-      All-contains (keeps later sights) (questions (always sights) (trace config)) question kept among good.0 good.1)
+  kept_of all first met = record {
+    asked =
+        with_told before.folder.holds
+        (λ tree holds sights sees names question among.
+        let told = told_by is_fresh sights in
+        let tells : ToldBy is_fresh before.folder before.known (told_by is_fresh sights) =
+        record { tree = tree; sights = sights; holds = holds; sees = sees; are = refl } in
+        let one = met.comes told tells ((λ e. cc), (λ e. cc)) in
+        let ended = ended_ok (evaluated (answers sights) before.trail (trace config)) all after.trail one.is one.leaves in
+        let asked = asked_as_questions (answers sights) (always sights) (answers_always sights) (trace config)
+        before.trail after.trail (Ok all) ended in
+        let is : traced sights config ≡ Ok all =
+        ap (λ trail. result_of (evaluated (answers sights) trail (trace config))) (sym first) ∙ one.is in
+        let kept = subst (All (keeps later sights)) asked (met.asked_kept told tells all refl) in
+        let good = All-contains (Good sights config later names) (questions (always sights) (trace config)) question
+        (all_given sights config later names all is) among in
+        All-contains (keeps later sights) (questions (always sights) (trace config)) question kept among good.0 good.1);
+  }
 
 -- beside another name for what is kept
 pub kept_left : (result : Result Tables TraceFault) (is_fresh later_fresh : Freshness) (keeping : Keeping)

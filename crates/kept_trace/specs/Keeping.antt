@@ -41,8 +41,8 @@ keeps kept sights question =
     IsUnder kept question → IsGivenBy question (always sights question) → is_anew kept sights question ≡ false
 
 -- own: where a tree is told, whatever stands at each path as far as looks tell
-abbrev pub KeepsTraced : Config → FolderState → Known → Kept → Type 0
-KeepsTraced config before known kept =
-    IfSome before.holds
-    (λ tree. (sights : Sights) → Sees tree known sights → kept.requests.names ≡ config.conditions
-    → KeepsAsked sights (questions (always sights) (trace config)) kept)
+pub record KeepsTraced (config : Config) (before : FolderState) (known : Known) (kept : Kept) : Type 0 where
+  pub asked :
+      IfSome before.holds
+      (λ tree. (sights : Sights) → Sees tree known sights → kept.requests.names ≡ config.conditions
+      → KeepsAsked sights (questions (always sights) (trace config)) kept)
