@@ -1,22 +1,20 @@
 -- What a trace asked for is kept.
 --     all_given            whatever a trace asks comes to a source or to a module
 --     kept_left            an answer is kept of each question of a trace
-use Rattle.std.proofs.Common.{◌≡◌, ℕ, List, [], ◌∷◌, ◌++◌, Option, Some, None, Result, Ok, Err, IfSome, refl, sym, ap, ◌∙◌, subst}
-use Rattle.std.specs.Prelude.{All, Contains, map, OnOk}
+use Rattle.std.proofs.Common.{◌≡◌, ℕ, List, [], ◌∷◌, ◌++◌, Option, Some, Result, Ok, Err, refl, sym, ap, ◌∙◌, subst}
+use Rattle.std.specs.Prelude.{All, map, OnOk}
 use Rattle.std.proofs.lemmas.List.Elements.{All-nil, All-cons, All-head, All-tail, All-append, All-contains}
 use Rattle.asking_spec.specs.Askings.{Asking, answered, ask, questions}
 use Rattle.asking_spec.specs.Evaluation.{Ended, ends, stopped, then_ended, Answers, evaluated, AreAlways}
 use Rattle.tree_spec.specs.LookAskings.{Sights}
 use Rattle.tree_spec.specs.LookLimits.{Trail, no_trail}
-use Rattle.tree_spec.specs.Trees.{Tree}
 use Rattle.tree_spec.specs.declared.LimitName.{LimitName}
 use Rattle.node_spec.specs.NodeAnswers.{Module}
 use Rattle.package_lookup.specs.Answered.{State}
-use Rattle.package_lookup.specs.Looked.{Sees}
 use Rattle.trace_spec.specs.Checks.{Gathered, asking_at}
 use Rattle.trace_spec.specs.Laws.{asked_in, led_in, visits_of, opening}
 use Rattle.trace_spec.specs.Modules.{Config}
-use Rattle.trace_spec.specs.Questions.{Question, of_module, Source, answers, always}
+use Rattle.trace_spec.specs.Questions.{Question, of_module, answers, always}
 use Rattle.trace_spec.specs.Traces.{trace, result_of, state_of, traced, if_ok, source, specifiers, leads}
 use Rattle.trace_spec.specs.Walking.{Referrer, the_page, a_module}
 use Rattle.trace_spec.specs.declared.TraceFault.{TraceFault}

@@ -3,16 +3,15 @@
 --     module_certified       what is kept of a module is certified
 --     request_certified      and of a request
 --     fresh_is_by_trees      a question
-use Rattle.std.proofs.Common.{◌≡◌, ◌⊎◌, ℕ, Bool, true, false, List, Option, Some, None, Result, Ok, refl, sym, subst, inl, inr}
+use Rattle.std.proofs.Common.{◌≡◌, ℕ, Bool, true, false, List, Option, Some, None, Ok, refl, subst, inl, inr}
 use Rattle.std.specs.Prelude.{not, bytes_eq, option_map, Contains, if◌then◌else◌}
 use Rattle.std.specs.Cmp.Lexicographic.{pointwise, pointwise_decides}
 use Rattle.std.proofs.lemmas.Slice.Eq.{bytes_eq-Decides}
 use Rattle.tree_spec.specs.LookAskings.{Sights, LookAsking}
 use Rattle.node_spec.specs.EsmResolve.{node}
-use Rattle.node_spec.specs.NodeAnswers.{Module, Refusal}
 use Rattle.node_resolve.specs.Places.{module_of}
-use Rattle.trace_spec.specs.Questions.{Question, of_module, of_request, Source, NoSource, module_source}
-use Rattle.kept_spec.specs.Certificates.{LookSeen, AreSeen, IsCertified}
+use Rattle.trace_spec.specs.Questions.{of_module, of_request, module_source}
+use Rattle.kept_spec.specs.Certificates.{LookSeen, IsCertified}
 use Rattle.kept_spec.specs.Freshness.{see_same, IsFresh}
 use Rattle.kept_spec.proofs.Freshening.{same_is_seen, other_is_changed}
 use Rattle.kept_answers.specs.Entries.{ModuleSeen, source_seen, Request}
@@ -21,7 +20,7 @@ use Rattle.kept_answers.specs.Tables.{modules_at, requests_at, AreModules, AreRe
 use Rattle.kept_answers.specs.declared.modules.KeptModules.{KeptModules}
 use Rattle.kept_answers.specs.declared.requests.KeptRequest.{KeptRequest}
 use Rattle.kept_answers.specs.declared.requests.KeptRequests.{KeptRequests}
-use Rattle.kept_trace.specs.Ready.{kept_looks, is_anew}
+use Rattle.kept_trace.specs.Ready.{kept_looks}
 use Rattle.kept_trace.specs.Tracing.{FreshIsByTrees}
 
 abbrev Certifies : {X : Type 0} → LookAsking X → Option (List LookSeen) → Type 0

@@ -6,9 +6,9 @@
 --     keeps_told           the same where a part of it is copied for the walk
 --     seen_source, seen_module       what is given is what is kept
 --     never_under          an answer under other conditions
-use Rattle.std.proofs.Common.{◌≡◌, ℕ, Bool, true, false, List, [], ◌∷◌, Option, Some, None, Result, Ok, Err, IfSome, refl, sym, ap, ◌∙◌, subst, ⊎_elim}
-use Rattle.std.specs.Prelude.{IfOk, bytes_eq}
-use Rattle.std.specs.Cmp.Lexicographic.{pointwise, pointwise_decides}
+use Rattle.std.proofs.Common.{◌≡◌, ℕ, false, List, [], ◌∷◌, Result, Ok, Err, refl, sym, ◌∙◌, subst, ⊎_elim}
+use Rattle.std.specs.Prelude.{IfOk}
+use Rattle.std.specs.Cmp.Lexicographic.{pointwise_decides}
 use Rattle.std.proofs.lemmas.Bool.{cond-true}
 use Rattle.std.proofs.lemmas.Slice.Eq.{bytes_eq-Decides}
 use Rattle.std.specs.declared.rc.Rc.{Rc}
@@ -37,14 +37,13 @@ use Rattle.trace_spec.specs.Questions.{Question, Answer, of_module, of_request, 
 use Rattle.trace_spec.specs.declared.TraceFault.{TraceFault}
 use Rattle.request_trace.specs.Answering.{result_by, KeepsOn, KeepsAnswer}
 use Rattle.request_trace.proofs.AnswerLemmas.{afresh}
-use Rattle.kept_spec.specs.Certificates.{LookSeen}
 use Rattle.kept_answers.specs.Entries.{Request}
 use Rattle.kept_answers.specs.Freshness.{module_looks, request_looks, is_fresh, IsSeenNow, StaysSeen}
 use Rattle.kept_answers.specs.declared.modules.KeptModules.{KeptModules}
 use Rattle.kept_answers.specs.declared.requests.KeptRequests.{KeptRequests}
-use Rattle.kept_answers.proofs.Certifying.{as_failing, failing_of}
+use Rattle.kept_answers.proofs.Certifying.{as_failing}
 use Rattle.kept_trace.specs.Keeping.{stays_of, IsGivenBy, keeps}
-use Rattle.kept_trace.specs.Ready.{kept_looks, is_anew}
+use Rattle.kept_trace.specs.Ready.{kept_looks}
 use Rattle.kept_trace.specs.Sharing.{IsToldAs}
 use Rattle.kept_trace.specs.declared.kept.Kept.{Kept}
 use Rattle.kept_trace.proofs.Telling.{answers_always, with_told, told_so, if_each}

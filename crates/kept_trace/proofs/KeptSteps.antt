@@ -2,7 +2,7 @@
 --     takes_by                     a step only where the question is asked anew
 --     none_kept, kept_under        the looks that are kept of a request
 --     told_met                     an answer of which a part is copied for the walk
-use Rattle.std.proofs.Common.{◌≡◌, ◌≤◌, ◌+◌, ℕ, Bool, true, false, List, [], ◌∷◌, length, Option, Some, None, Result, Ok, Err, refl, sym, ap, ◌∙◌, subst, ⊎_elim}
+use Rattle.std.proofs.Common.{◌≡◌, ◌≤◌, ◌+◌, ℕ, Bool, true, false, List, [], ◌∷◌, length, Option, None, Result, sym, ap, ◌∙◌, subst, ⊎_elim}
 use Rattle.std.specs.Prelude.{filter, bytes_eq}
 use Rattle.std.proofs.lemmas.Bool.{cond-true, cond-false}
 use Rattle.std.specs.Cmp.Lexicographic.{pointwise}
@@ -12,17 +12,15 @@ use Rattle.tree_spec.specs.LookAskings.{Sights}
 use Rattle.tree_spec.specs.LookLimits.{Trail}
 use Rattle.tree_spec.specs.States.{FolderState}
 use Rattle.trace_spec.specs.declared.TraceFault.{TraceFault}
-use Rattle.trace_spec.specs.declared.TraceFault.TheVariants.{Memory}
 use Rattle.trace_spec.specs.Questions.{Question, Answer, of_request, put}
 use Rattle.package_lookup.specs.Answered.{State, state, Answered}
 use Rattle.package_lookup.specs.Looked.{Sees}
-use Rattle.package_lookup.specs.Responses.{Response, given, fails, no_memory}
+use Rattle.package_lookup.specs.Responses.{Response, fails, no_memory}
 use Rattle.package_lookup.specs.declared.known.Known.{Known}
 use Rattle.trace_walk.specs.Meeting.{Met, fine}
 use Rattle.request_trace.specs.Answering.{Freshness, Keeping, Stays, TakesStep, KeepsOn, KeepsAnswer, answers_of}
 use Rattle.request_trace.proofs.AnswerLemmas.{afresh, met_by}
 use Rattle.kept_spec.specs.Certificates.{LookSeen}
-use Rattle.kept_answers.specs.Entries.{Request}
 use Rattle.kept_answers.specs.Freshness.{request_looks, is_fresh, step_if, TakesStepIfFresh}
 use Rattle.kept_answers.proofs.Certifying.{lost}
 use Rattle.kept_trace.specs.Ready.{kept_looks, is_anew}

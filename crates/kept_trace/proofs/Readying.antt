@@ -3,11 +3,10 @@
 --     modules_right, requests_right      what was kept is right
 --     still_ready                  a question of which nothing is kept
 --     ready_by_module, ready_by_request  one answer more is kept
-use Rattle.std.proofs.Common.{◌≡◌, ℕ, List, Option, Result, Ok, Err, IfSome, sym, ◌∙◌, subst}
+use Rattle.std.proofs.Common.{◌≡◌, Result, Ok, Err, IfSome, sym, ◌∙◌, subst}
 use Rattle.std.specs.Prelude.{OnOk}
 use Rattle.tree_spec.proofs.ToldStates.{if_some, if_two}
 use Rattle.tree_spec.specs.States.{FolderState}
-use Rattle.tree_spec.specs.Trees.{Tree}
 use Rattle.kept_answers.specs.Tables.{AreModules, AreRequests}
 use Rattle.kept_answers.specs.declared.modules.KeptModules.{KeptModules}
 use Rattle.kept_answers.specs.declared.requests.KeptRequests.{KeptRequests}

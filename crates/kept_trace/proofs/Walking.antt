@@ -1,5 +1,5 @@
 -- What a walk leaves ready, beside other names for the folder and for what is kept.
-use Rattle.std.proofs.Common.{◌≡◌, Option, Result, Ok, Err, IfSome, sym, ◌∙◌, subst}
+use Rattle.std.proofs.Common.{◌≡◌, Result, Ok, Err, IfSome, sym, ◌∙◌, subst}
 use Rattle.std.specs.Prelude.{OnOk}
 use Rattle.tree_spec.proofs.ToldStates.{if_two}
 use Rattle.tree_spec.specs.States.{FolderState}

@@ -4,7 +4,7 @@
 --     IsGivenBy question answer     there is a source, or a module
 --     keeps kept sights question    where it comes to that, an answer to it is kept whose looks see what stands there
 --     KeepsTraced config before known kept      so it is of each question that a trace asks
-use Rattle.std.specs.Prelude.{◌≡◌, ⊤, ℕ, false, List, [], ◌∷◌, Ok, IfSome}
+use Rattle.std.specs.Prelude.{◌≡◌, ⊤, ℕ, false, [], ◌∷◌, Ok, IfSome}
 use Rattle.asking_spec.specs.Askings.{questions}
 use Rattle.tree_spec.specs.LookAskings.{Sights}
 use Rattle.tree_spec.specs.States.{FolderState}

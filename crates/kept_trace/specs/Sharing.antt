@@ -1,6 +1,6 @@
 -- An answer of which a part is copied for the walk.
 --     IsToldAs response result      the walk is told what the question comes to, or memory was wanting behind an answer
-use Rattle.std.specs.Prelude.{◌≡◌, ◌⊎◌, Result, Ok, Err}
+use Rattle.std.specs.Prelude.{◌≡◌, ◌⊎◌, Result, Err}
 use Rattle.package_lookup.specs.Responses.{Response, given}
 use Rattle.trace_spec.specs.declared.TraceFault.{TraceFault}
 use Rattle.trace_spec.specs.declared.TraceFault.TheVariants.{Memory}

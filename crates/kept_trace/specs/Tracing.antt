@@ -3,7 +3,7 @@
 --                                          here
 --     IsFreshAfter before asked after question      it wasn't asked before, or something changed at its footprint
 --     FreshIsByTrees                       a question that is asked anew is fresh by the trees before and after
-use Rattle.std.specs.Prelude.{◌≡◌, Bool, true, false, List, Contains}
+use Rattle.std.specs.Prelude.{◌≡◌, true, false, List, Contains}
 use Rattle.tree_spec.specs.LookAskings.{Sights}
 use Rattle.trace_spec.specs.Questions.{Question, put}
 use Rattle.kept_spec.specs.Freshness.{IsFresh}

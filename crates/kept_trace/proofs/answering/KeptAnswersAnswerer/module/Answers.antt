@@ -1,4 +1,4 @@
-use Rattle.std.proofs.Common.{rules, refl}
+use Rattle.std.proofs.Common.{refl}
 use Rattle.module_sources.specs.Shown.{source_in}
 use Rattle.package_lookup.specs.Lookups.{state_of}
 use Rattle.package_lookup.specs.Responses.{looked}
