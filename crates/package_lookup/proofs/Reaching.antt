@@ -7,13 +7,12 @@
 --     reached_among               each is one of the looks
 --     all_reached                 where no limit is passed, all are
 --     looks_passed                the looks of an asking that ends pass no limit
---     up_to_limit                 none is behind the first limit
 use Rattle.std.proofs.Common.{◌≡◌, ℕ, List, [], ◌∷◌, ◌++◌, Result, Ok, Err, refl, sym, ap, ◌∙◌, subst, inl, inr, append_assoc}
 use Rattle.std.specs.Prelude.{Contains}
 use Rattle.std.proofs.lemmas.List.Elements.{Contains-append_right}
 use Rattle.asking_spec.specs.Askings.{outcome}
 use Rattle.asking_spec.specs.Evaluation.{ends, stopped, then_ended, evaluated}
-use Rattle.tree_spec.proofs.Contained.{contains_here, contains_there, contains_cases, contains_none}
+use Rattle.tree_spec.proofs.Contained.{contains_here, contains_cases, contains_none}
 use Rattle.tree_spec.proofs.LimitedLooks.{LookEnd, with_value, visited, visited_append, limited_is}
 use Rattle.tree_spec.specs.LookAskings.{Sights, LookAsking, looks}
 use Rattle.tree_spec.specs.LookLimits.{LookLimits, Trail, counted, told, limited}

@@ -12,4 +12,5 @@ IsShortJoin path folder text target =
     IsPath path → All (λ b. b < 256) path → parse_against (file_text path folder) text ≡ Some (file_text target false)
 
 abbrev pub IsJoinIn : List ℕ → List ℕ → List ℕ → Type 0
-IsJoinIn above text target = (path : List ℕ) (folder : Bool) → IsFolderOf path folder above → IsShortJoin path folder text target
+IsJoinIn above text target =
+    (path : List ℕ) (folder : Bool) → IsFolderOf path folder above → IsShortJoin path folder text target
