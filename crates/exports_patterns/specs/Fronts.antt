@@ -9,6 +9,7 @@
 --     LinkedBelow texts links most      each of the first so many has its link: the last one before it that it begins
 --         with
 --     HasAllLinks texts links      each text has its link
+--     AreFronts texts links      the texts don't fall, and each has its link
 use Rattle.std.specs.Prelude.{◌≡◌, ◌<◌, ◌≤◌, ◌-◌, ℕ, List, [], length, slice_index, slice_index_or, false}
 use Rattle.std.specs.Ordering.{nat_cmp, is_lt}
 use Rattle.std.specs.Cmp.Lexicographic.{slice_cmp}
@@ -44,3 +45,6 @@ LinkedBelow texts links most = (i : ℕ) → i < most → HasLink texts i (slice
 pub record HasAllLinks (texts : List (List ℕ)) (links : List ℕ) : Type 0 where
   pub each : LinkedBelow texts links (length links)
   pub all : length links ≡ length texts
+
+abbrev pub AreFronts : List (List ℕ) → List ℕ → Type 0
+AreFronts texts links = IsAscending texts × HasAllLinks texts links

@@ -1,4 +1,4 @@
-//! The choice among few keys.
+//! The choice among the keys of an object, one after another.
 ghost use Rattle.std.specs.Prelude.{◌≡◌, ◌≢◌, ◌↔◌, ◌+◌, ◌++◌, ◌∷◌, [], List, ℕ, length, slice_get, Some};
 ghost use Rattle.std.specs.Prelude.{MatchOption, IfSome, IsTrue};
 ghost use Rattle.node_spec.specs.PatternKeys.{HasNoStar, IsPattern, KeyMatch, Matches, GoesBefore};
@@ -9,8 +9,9 @@ use crate::parts::at_star;
 use crate::pattern_keys::Match;
 use ordered_json::Members;
 
-/// The same as `best_match`, where each key is looked at.
-pub(crate) fn best_of_few(keys: &Members, key: &str) -> Option<Match>
+/// The key that matches a text and that no other matching key precedes (Node.js, ECMAScript modules:
+/// PACKAGE_IMPORTS_EXPORTS_RESOLVE). None where no key matches. Each key is looked at, and no memory is taken.
+pub fn best_match(keys: &Members, key: &str) -> Option<Match>
     ensures choice { Finds (keys_of keys.now) key.now result }
     ensures span { IfSome result (HasSpan key.now) }
 {

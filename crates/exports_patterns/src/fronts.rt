@@ -25,13 +25,13 @@ pub struct Fronts<V> {
 impl<V> Model for Fronts<V> {
     ghost use Rattle.std.specs.Prelude.{List, ℕ};
     ghost use Rattle.std.specs.Map.{keys_of};
-    ghost use Rattle.exports_patterns.specs.Fronts.{IsAscending, HasAllLinks};
+    ghost use Rattle.exports_patterns.specs.Fronts.{AreFronts};
 
     ghost Value = { List (List ℕ × V) };
 
     ghost view = { λ f. f.entries.items };
 
-    ghost invariant = { λ f. IsAscending (keys_of f.entries.items) × HasAllLinks (keys_of f.entries.items) f.links.items };
+    ghost invariant = { λ f. AreFronts (keys_of f.entries.items) f.links.items };
 }
 
 impl<V: Drop> Fronts<V> {

@@ -9,8 +9,9 @@ mod keys;
 mod parts;
 mod pattern_keys;
 
+pub use few::best_match;
 pub use keys::{Keys, keys_in};
-pub use pattern_keys::{Match, best_match, place_of};
+pub use pattern_keys::{Match, indexed_match, place_of};
 
 /// Among the keys of an object, which are distinct, one match is found at most.
 pub fn one_found()

@@ -1,3 +1,4 @@
+//! The choice among the keys of an object by their index.
 ghost use Rattle.std.specs.Prelude.{◌≡◌, ◌≤◌, List, ℕ, length, take, reverse, slice_get, Some};
 ghost use Rattle.std.specs.Prelude.{IfOk, IfSome, MatchOption};
 ghost use Rattle.node_spec.specs.PatternKeys.{HasNoStar, StartsWith};
@@ -6,7 +7,7 @@ ghost use Rattle.exports_patterns.specs.Found.{keys_of, Finds, HasSpan};
 ghost use Rattle.exports_patterns.specs.Fronts.{StandsAt};
 ghost use Rattle.exports_patterns.specs.Indexes.{Group, IsIndex, IsKeyIndex};
 
-use crate::few::{best_of_few, place_of_few};
+use crate::few::{best_match, place_of_few};
 use crate::fronts::Fronts;
 use crate::keys::{KeyIndex, Keys};
 use crate::parts::reversed;
@@ -27,9 +28,8 @@ pub struct Match {
     pub to: usize,
 }
 
-/// The key that matches a text and that no other matching key precedes (Node.js, ECMAScript modules:
-/// PACKAGE_IMPORTS_EXPORTS_RESOLVE). None where no key matches.
-pub fn best_match(
+/// What `best_match` gives, by an index of the keys where there is one.
+pub fn indexed_match(
     alloc: Global,
     keys: &Keys,
     members: &Members,
@@ -40,7 +40,7 @@ pub fn best_match(
     ensures span { IfOk result (λ found. IfSome found (HasSpan asked.now)) }
 {
     match &keys.index {
-        None => Ok(best_of_few(members, asked)),
+        None => Ok(best_match(members, asked)),
         Some(index) => best_indexed(alloc, index, asked),
     }
 }

@@ -1,11 +1,13 @@
 -- Members of the objects in a record.
 --     found_field found                    the value that is found; where there is none, null
+--     shown_in found                       the value of an `exports` or `imports`
 --     IsTarget members asked found         the target of the key that is taken, with what stands for `*`
 --     FindsTarget members asked result     the same, where a key is taken
 use Rattle.std.specs.Prelude.{◌≡◌, ℕ, List, Option, Some, None}
 use Rattle.json_spec.specs.Value.{Json, a_null, Members, names_of}
 use Rattle.ordered_json.specs.Shown.{json_of}
 use Rattle.ordered_json.specs.declared.value.Value.{Value}
+use Rattle.package_record.specs.declared.subpaths.Subpaths.{Subpaths}
 use Rattle.node_spec.specs.PatternKeyCompare.{KeyFound, first_key, pattern_match}
 use Rattle.node_spec.specs.Records.{field}
 use denote.Ref.{Bor}
@@ -13,6 +15,9 @@ use denote.Ref.{Bor}
 abbrev pub found_field : Option (Bor Value) → Json
 found_field None = a_null
 found_field (Some value) = json_of value.now
+
+abbrev pub shown_in : Subpaths → Json
+shown_in found = json_of found.value
 
 pub record IsTarget (members : Members) (asked : List ℕ) (target : Json) (star : Option (List ℕ)) : Type 0 where
   pub chosen : KeyFound

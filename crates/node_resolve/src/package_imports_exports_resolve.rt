@@ -8,7 +8,7 @@ ghost use Rattle.ordered_json.specs.Lists.{pairs_of};
 ghost use Rattle.ordered_json.specs.Shown.{json_of, members_of};
 ghost use Rattle.node_resolve.specs.Members.{IsTarget};
 
-use exports_patterns::{Keys, Match, best_match};
+use exports_patterns::{Keys, Match, indexed_match};
 use ordered_json::{Members, Value};
 use shared_types::Memory;
 use std::alloc::Global;
@@ -27,7 +27,7 @@ pub fn target_of<'a, 'b>(
         (λ found. IsTarget (members_of (pairs_of members.now)) asked.now (json_of found.0.now)
         (option_map (λ part. part.now) found.1))) }
 {
-    match best_match(alloc, keys, members, asked) {
+    match indexed_match(alloc, keys, members, asked) {
         Err(fault) => Err(fault),
         Ok(None) => Ok(None),
         Ok(Some(found)) => match members.at(found.index) {

@@ -2,7 +2,7 @@ use Rattle.exports_patterns.specs.Found.{keys_of, Finds, HasSpan}
 use Rattle.exports_patterns.specs.Indexes.{IsKeyIndex}
 use Rattle.std.specs.Prelude.{IfSome}
 use Rattle.exports_patterns.proofs.ChoiceLemmas.{at_names}
-use Rattle.exports_patterns.proofs.pattern_keys.best_match.Goals as goal
+use Rattle.exports_patterns.proofs.pattern_keys.indexed_match.Goals as goal
 
 pub returns-in-Some-clause-choice : goal.returns-in-Some-clause-choice
 returns-in-Some-clause-choice c =

@@ -3,7 +3,7 @@ use Rattle.ordered_json.specs.Lists.{pairs_of}
 use Rattle.exports_patterns.specs.Found.{keys_of, Finds}
 use Rattle.exports_patterns.proofs.FewLemmas.{all_found}
 use Rattle.exports_patterns.proofs.KeyLemmas.{next_key, length_before}
-use Rattle.exports_patterns.proofs.few.best_of_few.Goals as goal
+use Rattle.exports_patterns.proofs.few.best_match.Goals as goal
 
 pub loop-index-preserved : goal.loop-index-preserved
 loop-index-preserved c =
