@@ -1,6 +1,6 @@
 -- Members of the objects in a record.
 --     found_field found                    the value that is found; where there is none, null
---     shown_in found                       the value of an `exports` or `imports`
+--     json_in found                        the value of an `exports` or `imports`
 --     IsTarget members asked found         the target of the key that is taken, with what stands for `*`
 --     FindsTarget members asked result     the same, where a key is taken
 use Rattle.std.specs.Prelude.{◌≡◌, ℕ, List, Option, Some, None}
@@ -16,8 +16,8 @@ abbrev pub found_field : Option (Bor Value) → Json
 found_field None = a_null
 found_field (Some value) = json_of value.now
 
-abbrev pub shown_in : Subpaths → Json
-shown_in found = json_of found.value
+abbrev pub json_in : Subpaths → Json
+json_in found = json_of found.value
 
 pub record IsTarget (members : Members) (asked : List ℕ) (target : Json) (star : Option (List ℕ)) : Type 0 where
   pub chosen : KeyFound

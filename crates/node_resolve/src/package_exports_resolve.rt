@@ -11,7 +11,7 @@ ghost use Rattle.node_spec.specs.PackageImportsExportsResolve.{by_key};
 ghost use Rattle.ordered_json.specs.Lists.{pairs_of};
 ghost use Rattle.ordered_json.specs.Shown.{json_of, members_of};
 ghost use Rattle.package_lookup.specs.Responses.{itself};
-ghost use Rattle.node_resolve.specs.Members.{found_field, shown_in};
+ghost use Rattle.node_resolve.specs.Members.{found_field, json_in};
 ghost use Rattle.node_resolve.specs.Responses.{Gives};
 
 use crate::NodeFault;
@@ -144,7 +144,7 @@ fn subpath_export(
     conditions: &Conditions,
 ) -> Result<FileUrl, NodeFault>
     requires { IsSubpaths exports.now }
-    ensures { Gives itself (subpath_export conditions.now package_folder.now subpath.now (shown_in exports.now)) result }
+    ensures { Gives itself (subpath_export conditions.now package_folder.now subpath.now (json_in exports.now)) result }
 {
     match &exports.value {
         Value::Object(members) => {
