@@ -10,15 +10,15 @@ use Rattle.node_resolve.proofs.TargetLemmas.{given_now}
 use Rattle.node_resolve.proofs.ValueLemmas.{subpath_by_key, subpath_none}
 use Rattle.node_resolve.proofs.package_exports_resolve.subpath_export.Goals as goal
 
-pub returns-then-are_dotted : goal.returns-then-are_dotted
-returns-then-are_dotted c =
+pub returns-then-exports : goal.returns-then-exports
+returns-then-exports c =
     gives_as itself _ _ c.export_at.result (subpath_by_key c.args.conditions.now c.args.package_folder.now (json_of c.args.exports.now.value) c.args.subpath.now _ (ap json_of c.in-Object.is ∙ json_of_object _)
-    (sym (c.requires.indexed _ (ap json_of c.in-Object.is ∙ json_of_object _)).are_dotted ∙ c.if-are_dotted.true)) c.export_at.ensures
+    (sym (c.requires.indexed _ (ap json_of c.in-Object.is ∙ json_of_object _)).are_dotted ∙ c.if-exports.true)) c.export_at.ensures
 
-pub returns-else-are_dotted : goal.returns-else-are_dotted
-returns-else-are_dotted c =
+pub returns-else-exports : goal.returns-else-exports
+returns-else-exports c =
     gives_as itself _ _ (Err (Refused NotExported)) (subpath_none c.args.conditions.now c.args.package_folder.now (json_of c.args.exports.now.value) c.args.subpath.now _ (ap json_of c.in-Object.is ∙ json_of_object _)
-    (sym (c.requires.indexed _ (ap json_of c.in-Object.is ∙ json_of_object _)).are_dotted ∙ c.if-are_dotted.false)) (given_now _)
+    (sym (c.requires.indexed _ (ap json_of c.in-Object.is ∙ json_of_object _)).are_dotted ∙ c.if-exports.false)) (given_now _)
 
 pub export_at-requires-clause-distinct : goal.export_at-requires-clause-distinct
 export_at-requires-clause-distinct c = distinct_in _ _ (ap json_of c.in-Object.is ∙ json_of_object _) c.requires.distinct
