@@ -1,8 +1,5 @@
 //! What is left of the targets in `exports` or `imports` under some conditions.
-ghost use Rattle.std.specs.Prelude.{◌≡◌, List, ℕ, Bool, IfOk, IsTrue, Some, slice_get};
-ghost use Rattle.condition_match.specs.Reducing.{ComesAs};
-ghost use Rattle.ordered_json.specs.Lists.{pairs_of};
-ghost use Rattle.ordered_json.specs.Shown.{json_of};
+ghost use Rattle.std.specs.Prelude.{IfOk};
 ghost use Rattle.package_record.specs.Targets.{AreLeft, AreLeftOf, IsLeftOf};
 
 use condition_match::{Conditions, reduced_target};
