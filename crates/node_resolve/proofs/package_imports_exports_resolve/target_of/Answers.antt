@@ -26,6 +26,6 @@ returns-in-Some c = λ imports subpaths.
       target = _;
       is = target_is (pairs_of c.args.members.now) c.args.asked.now c.in-Ok-Some.found _ _ c.requires.distinct
           choice there c.part_of.ensures;
-      comes = c.target_at.ensures imports _ subpaths
+      comes = c.target_at-target.ensures imports _ subpaths
           (record { members = c.args.members.now; object = c.requires.object; stands = there });
     }
