@@ -81,9 +81,10 @@ module _ (right later : Type 0) (is_fresh later_fresh : Freshness) (keeping late
         → Met (answers_if right (first_of before)) asking result (answers_if later (last_of after))
     met_if tree same stays_right = record {
       comes = λ told by is_told. (met by.1).comes told by.0 is_told;
-      told = λ told by.
-          ((met by.1).told told by.0,
-          told_so (λ tree. right → later) before.folder.holds by.0.tree by.0.holds stays_right by.1);
+      told = λ told by. (
+        (met by.1).told told by.0,
+        told_so (λ tree. right → later) before.folder.holds by.0.tree by.0.holds stays_right by.1,
+      );
       keeps = (λ i. record {
         references = (always.keeps i).references;
         names = (always.keeps i).names;
