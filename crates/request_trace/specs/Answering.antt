@@ -59,7 +59,8 @@ abbrev pub looked_to_end : {X : Type 0} → Sights → Trail → LookAsking X �
 looked_to_end sights trail (answered value) = []
 looked_to_end sights trail (ask path next) =
     if has_room trail path
-    then path ∷ asked_then (limited look_limits sights trail path) (λ found after. looked_to_end sights after (next found))
+    then path
+    ∷ asked_then (limited look_limits sights trail path) (λ found after. looked_to_end sights after (next found))
     else []
 
 abbrev pub told_by : Freshness → Sights → Told Trail Question Answer

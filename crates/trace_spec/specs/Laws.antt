@@ -474,9 +474,9 @@ without_question (stopped limit trail) = stopped limit (begun trail)
 abbrev pub looks_of : Sights → List Question → List (List ℕ)
 looks_of sights asked = flat_map (λ question. looks sights (put question)) asked
 
--- own: one of the generation's looks is at the path, those before it pass no limit, and it isn't refused as one path too
--- many, before it is made, whether the trace is refused or not; so none is behind the look at which a limit stops it,
--- and where that is the limit of paths, neither is that look
+-- own: one of the generation's looks is at the path, those before it pass no limit, and it isn't refused as one path
+-- too many, before it is made, whether the trace is refused or not; so none is behind the look at which a limit stops
+-- it, and where that is the limit of paths, neither is that look
 pub record IsLookedAt (sights : Sights) (config : Config) (path : List ℕ) : Type 0 where
   pub front : List (List ℕ)
   pub back : List (List ℕ)
