@@ -12,11 +12,7 @@ use std::alloc::Global;
 use web_url::{WebUrl, as_url};
 
 /// The integrity that the members of an object give. They are moved: each gives its memory back once it was read.
-pub fn integrity_of(
-    alloc: Global,
-    base: &WebUrl,
-    members: Members,
-) -> Result<TextMap<Text>, Memory>
+pub fn integrity_of(alloc: Global, base: &WebUrl, members: Members) -> Result<TextMap<Text>, Memory>
     ensures { IfOk result (λ digests. digests ≡ normalized_integrity base.now (members_of (pairs_of members))) }
 {
     let digests = gathered(alloc, base, members)?;
