@@ -1,20 +1,14 @@
 -- Members of which no name is an array index stand in property order.
 --     ArePlain members      no name is an array index
-use Rattle.std.proofs.Common.{◌≡◌, ℕ, Bool, true, false, cond, List, [], ◌∷◌, length, refl, sym, ap, ◌∙◌, subst}
+use Rattle.std.proofs.Common.{◌≡◌, ℕ, false, List, [], ◌∷◌, length, refl, sym, ap, ◌∙◌, subst}
 use Rattle.std.specs.Prelude.{◌&&◌, nat_le, ⊤}
 use Rattle.std.specs.List.{list_all}
 use Rattle.std.specs.Char.{is_ascii_digit}
 use Rattle.std.proofs.lemmas.Bool.{cond-false}
 use Rattle.json_spec.specs.PropertyOrder.{is_array_index, has_no_leading_zero, number_of, index_members, other_members, joined, in_property_order}
 use Rattle.json_spec.specs.Value.{Members, no_members, a_member}
-use Rattle.std.specs.Prelude.{Result, Ok, MatchResult}
-use Rattle.std.specs.FinMap.{empty}
 use Rattle.ordered_json.specs.Shown.{members_of}
 use Rattle.ordered_json.specs.declared.value.Value.{Value}
-use Rattle.import_map_spec.specs.ParsedMap.{Addresses, Texts}
-use Rattle.import_map_spec.specs.Parsing.{scopes_onto, normalized_scopes}
-use Rattle.map_parse.specs.Faults.{FailsPart}
-use Rattle.map_parse.specs.declared.fault.MapFault.{MapFault}
 
 abbrev pub ArePlain : Members → Type 0
 ArePlain no_members = ⊤
@@ -53,9 +47,3 @@ no_digit_first name rest b e none = ap is_array_index e ∙ no_digit b rest none
 pub no_byte : (name : List ℕ) → length name ≡ 0 → is_array_index name ≡ false
 no_byte [] e = empty_name
 no_byte (b ∷ rest) e = cc
-
--- scopes whose members stand in property order are put as they are written
-pub put_as_written : (base : List ℕ) (ms : Members) (found : Result (Texts Addresses) MapFault) → in_property_order ms ≡ ms
-    → MatchResult found (λ scopes. scopes_onto base empty ms ≡ Ok scopes) (λ fault. FailsPart fault (scopes_onto base empty ms))
-    → MatchResult found (λ scopes. normalized_scopes base ms ≡ Ok scopes) (λ fault. FailsPart fault (normalized_scopes base ms))
-put_as_written base ms found e h = subst (λ xs. MatchResult found (λ scopes. scopes_onto base empty xs ≡ Ok scopes) (λ fault. FailsPart fault (scopes_onto base empty xs))) (sym e) h

@@ -1,8 +1,10 @@
 -- How scopes are put one by one.
 use Rattle.std.proofs.Common.{◌≡◌, ◌<◌, ◌+◌, ℕ, List, [], ◌∷◌, ◌++◌, drop, length, reverse, ap, sym, ◌∙◌, subst}
-use Rattle.std.specs.Prelude.{Result, slice_index_or}
+use Rattle.std.specs.FinMap.{empty}
+use Rattle.std.specs.Prelude.{Result, Ok, MatchResult, slice_index_or}
 use Rattle.std.proofs.lemmas.List.{drop_more, reverse-append}
 use denote.Ref.{Bor}
+use Rattle.json_spec.specs.PropertyOrder.{in_property_order}
 use Rattle.json_spec.specs.Value.{Json, an_object, Members, a_member}
 use Rattle.url_spec.specs.Parsing.{parse_against}
 use Rattle.import_map_spec.specs.ParsedMap.{Addresses, Texts}
@@ -12,7 +14,7 @@ use Rattle.ordered_json.specs.declared.value.Value.{Value}
 use Rattle.ordered_json.specs.Lent.{lent}
 use Rattle.map_parse.specs.Faults.{FailsPart}
 use Rattle.map_parse.specs.declared.fault.MapFault.{MapFault}
-use Rattle.import_map_spec.specs.Parsing.{scopes_onto, with_scope, normalized_addresses}
+use Rattle.import_map_spec.specs.Parsing.{scopes_onto, normalized_scopes, with_scope, normalized_addresses}
 
 pub scope_put : (base : List ℕ) (old new : Texts Addresses) (key : List ℕ) (value : Json) (ms more : Members) → value ≡ an_object ms
     → new ≡ with_scope (parse_against base key) (normalized_addresses base ms) old → scopes_onto base old (a_member key value more) ≡ scopes_onto base new more
@@ -33,3 +35,9 @@ last_fails base m out fault pairs left key written value e last same f =
     subst (FailsPart fault)
     (sym (e ∙ ap (λ ps. scopes_onto base m (members_of ps)) (ap reverse last ∙ reverse-append left ((written, value) ∷ []))))
     (subst (λ k. FailsPart fault (scopes_onto base m (a_member k (json_of value) (members_of (reverse left))))) same (f (members_of (reverse left))))
+
+-- scopes whose members stand in property order are put as they are written
+pub put_as_written : (base : List ℕ) (ms : Members) (found : Result (Texts Addresses) MapFault) → in_property_order ms ≡ ms
+    → MatchResult found (λ scopes. scopes_onto base empty ms ≡ Ok scopes) (λ fault. FailsPart fault (scopes_onto base empty ms))
+    → MatchResult found (λ scopes. normalized_scopes base ms ≡ Ok scopes) (λ fault. FailsPart fault (normalized_scopes base ms))
+put_as_written base ms found e h = subst (λ xs. MatchResult found (λ scopes. scopes_onto base empty xs ≡ Ok scopes) (λ fault. FailsPart fault (scopes_onto base empty xs))) (sym e) h

@@ -2,7 +2,7 @@ use Rattle.std.proofs.Common.{◌∙◌, ap, sym}
 use Rattle.json_spec.specs.PropertyOrder.{in_property_order}
 use Rattle.ordered_json.specs.Lists.{pairs_of}
 use Rattle.ordered_json.specs.Shown.{members_of}
-use Rattle.map_parse.proofs.PlainNames.{put_as_written}
+use Rattle.map_parse.proofs.ScopeLemmas.{put_as_written}
 use Rattle.map_parse.proofs.scopes.gathered_of.Goals as goal
 
 pub returns-then-are_as_written : goal.returns-then-are_as_written
