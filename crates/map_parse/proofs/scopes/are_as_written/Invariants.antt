@@ -1,4 +1,4 @@
-use Rattle.std.proofs.Common.{◌≡◌, length}
+use Rattle.std.proofs.Common.{length}
 use Rattle.ordered_json.specs.Shown.{members_of}
 use Rattle.map_parse.proofs.PlainNames.{ArePlain}
 use Rattle.map_parse.proofs.scopes.are_as_written.Given as goal
