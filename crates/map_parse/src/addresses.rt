@@ -76,6 +76,36 @@ impl Addresses {
             entries: gathering.into_map()?,
         })
     }
+
+    /// The same of members that are moved: each gives its memory back once it was read.
+    pub(crate) fn from_members(
+        alloc: Global,
+        base: &WebUrl,
+        members: Members,
+    ) -> Result<Addresses, Memory>
+        ensures { IfOk result (λ addresses. addresses ≡ normalized_addresses base.now (members_of (pairs_of members))) }
+    {
+        let gathering = gathered_from(alloc, base, members)?;
+        Ok(Addresses {
+            entries: gathering.into_map()?,
+        })
+    }
+}
+
+fn gathered_from(
+    alloc: Global,
+    base: &WebUrl,
+    members: Members,
+) -> Result<Gathering<Option<UrlText>>, Memory>
+    ensures { IfOk result (λ addresses. addresses ≡ normalized_addresses base.now (members_of (pairs_of members))) }
+{
+    let mut addresses = Gathering::with_room(alloc, members.len())?;
+    let mut pairs = members.into_pairs()?;
+    pairs.reverse();
+    while let Some((key, value)) = pairs.pop() {
+        put_address(alloc, base, &mut addresses, &key, &value)?;
+    }
+    Ok(addresses)
 }
 
 fn gathered(

@@ -11,26 +11,22 @@ use shared_types::{Memory, Text};
 use std::alloc::Global;
 use web_url::{WebUrl, as_url};
 
-/// The integrity that the members of an object give.
-pub fn integrity_of(
-    alloc: Global,
-    base: &WebUrl,
-    members: &Members,
-) -> Result<TextMap<Text>, Memory>
-    ensures { IfOk result (λ digests. digests ≡ normalized_integrity base.now (members_of (pairs_of members.now))) }
+/// The integrity that the members of an object give. They are moved: each gives its memory back once it was read.
+pub fn integrity_of(alloc: Global, base: &WebUrl, members: Members) -> Result<TextMap<Text>, Memory>
+    ensures { IfOk result (λ digests. digests ≡ normalized_integrity base.now (members_of (pairs_of members))) }
 {
     let digests = gathered(alloc, base, members)?;
     digests.into_map()
 }
 
-fn gathered(alloc: Global, base: &WebUrl, members: &Members) -> Result<Gathering<Text>, Memory>
-    ensures { IfOk result (λ digests. digests ≡ normalized_integrity base.now (members_of (pairs_of members.now))) }
+fn gathered(alloc: Global, base: &WebUrl, members: Members) -> Result<Gathering<Text>, Memory>
+    ensures { IfOk result (λ digests. digests ≡ normalized_integrity base.now (members_of (pairs_of members))) }
 {
     let mut digests = Gathering::with_room(alloc, members.len())?;
-    let mut rest = members.as_slice();
-    while let Some((pair, more)) = rest.split_first() {
-        put_digest(alloc, base, &mut digests, pair.0.as_str(), &pair.1)?;
-        rest = more;
+    let mut pairs = members.into_pairs()?;
+    pairs.reverse();
+    while let Some((key, value)) = pairs.pop() {
+        put_digest(alloc, base, &mut digests, key.as_str(), &value)?;
     }
     Ok(digests)
 }

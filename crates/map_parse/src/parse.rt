@@ -49,11 +49,11 @@ fn map_of_members(alloc: Global, base: &WebUrl, members: Members) -> Result<Pars
         Ok(members) => members,
         Err(fault) => return Err(fault),
     };
-    let scopes = match object_in(alloc, MapPart::Scopes, parts.scopes) {
+    let members = match object_in(alloc, MapPart::Scopes, parts.scopes) {
         Ok(members) => members,
         Err(fault) => return Err(fault),
     };
-    let scopes = match scopes_of(alloc, base, &scopes) {
+    let scopes = match scopes_of(alloc, base, members) {
         Ok(scopes) => scopes,
         Err(fault) => return Err(fault),
     };
@@ -61,10 +61,10 @@ fn map_of_members(alloc: Global, base: &WebUrl, members: Members) -> Result<Pars
         Ok(members) => members,
         Err(fault) => return Err(fault),
     };
-    let Ok(imports) = Addresses::of(alloc, base, &imports) else {
+    let Ok(imports) = Addresses::from_members(alloc, base, imports) else {
         return Err(MapFault::Memory);
     };
-    let Ok(integrity) = integrity_of(alloc, base, &integrity) else {
+    let Ok(integrity) = integrity_of(alloc, base, integrity) else {
         return Err(MapFault::Memory);
     };
     Ok(ParsedMap {

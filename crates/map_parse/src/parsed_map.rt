@@ -39,8 +39,8 @@ impl ParsedMap {
         self.scopes.get(key)
     }
 
-    /// The same with the place of the URL among those of all scopes. Where that is the place that is given, it is found at
-    /// once.
+    /// The same with the place of the URL among those of all scopes. Where that is the place that is given, it is
+    /// found at once.
     pub fn scope_near(&self, key: &str, near: usize) -> (Option<&Addresses>, usize)
         ensures { option_copied result.0 ≡ get self.now.scopes key.now }
     {
