@@ -4,6 +4,7 @@ mod LookedOn
 mod StandingLemmas
 mod TreesMade
 mod DraftsMade
+mod MapsAgain
 mod MapsTried
 mod SessionSteps
 mod SessionCalls

@@ -6,6 +6,7 @@ pub mod Sessions
 pub mod LooksOn
 pub mod Standings
 pub mod Making
+pub mod Mapping
 pub mod Trying
 pub mod Stopping
 pub mod Steps

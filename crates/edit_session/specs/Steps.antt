@@ -3,10 +3,11 @@
 --     LacksMap tree config stop               for this reason there is no map
 --     CanLackMap config stop                  there can be none, whatever the folder tells
 --     IsAsBefore old new                      but for what is kept, the parts are as before
+--     LeavesRight before old new              answers that are right are kept for the next trace
 --     GeneratesNext before old over entries result after new      what is pending once the changes are made
 --     MakesNext before old edit result after new                  what is pending of an edit
 --     IsStep old pending new                  what is pending becomes the state
-use Rattle.std.specs.Prelude.{◌≡◌, ⊤, ℕ, List, Some, Result, Err, IfOk, IfErr}
+use Rattle.std.specs.Prelude.{◌≡◌, ⊤, ℕ, List, Some, Result, Err, IfOk, IfErr, OnOk}
 use Rattle.std.specs.FinMap.{get}
 use Rattle.tree_spec.specs.States.{FolderState}
 use Rattle.tree_spec.specs.Trees.{Tree}
@@ -17,6 +18,7 @@ use Rattle.generator_spec.specs.Commands.{Refuses, IsRefusalOf}
 use Rattle.package_lookup.specs.declared.over.Over.{Over}
 use Rattle.package_lookup.specs.LaidTrees.{StandsBehind, IsLaid}
 use Rattle.package_lookup.specs.Looked.{over_at}
+use Rattle.kept_trace.specs.Ready.{AreAllRight}
 use Rattle.session_spec.specs.declared.Change.{Change}
 use Rattle.session_spec.specs.EditLooks.{IsEditLook}
 use Rattle.session_spec.specs.Replies.{IsAccepted}
@@ -54,23 +56,30 @@ CanLackMap config Memory = ⊤
 pub record IsAsBefore (old new : Parts) : Type 0 where
   pub config : new.config ≡ old.config
   pub generated : new.generated ≡ old.generated
+  pub answers : new.answers.kept ≡ old.answers.kept
+
+-- own: where a tree is told and what was kept is right, what is kept for the next trace is right
+abbrev pub LeavesRight : FolderState → Parts → Parts → Type 0
+LeavesRight before old new =
+    (tree : Tree) → before.holds ≡ Some tree → AreAllRight old.answers.kept → AreAllRight new.answers.next
 
 pub record GeneratesNext (before : FolderState) (old : Parts) (over : Over) (entries : List (List ℕ))
     (result : Result Pending EditStop) (after : FolderState) (new : Parts) : Type 0 where
   pub same : IsAsBefore old new
   pub looks :
       LooksOn before old.known after new.known (result ≡ Err ReadFault) (result ≡ Err Memory)
-      (λ tree path. (seen : Tree) → StandsBehind tree old.known → IsLaid tree over seen
+      (λ tree path. AreAllRight old.answers.kept → (seen : Tree) → StandsBehind tree old.known → IsLaid tree over seen
       → IsLookedAt (get seen) (config_with old.config entries) path)
   pub same_over : IfOk result (λ pending. (path : List ℕ) → over_at pending.over path ≡ over_at over path)
   pub same_entries : IfOk result (λ pending. pending.entries ≡ entries)
   pub generated :
-      IfOk result (λ pending. IfLaid before old.known over (λ seen.
+      IfOk result (λ pending. IfLaid (AreAllRight old.answers.kept) before old.known over (λ seen.
       IsGenerated seen (config_with old.config entries) pending.generated.map.items (counts_in pending.generated)))
   pub refused :
-      IfErr result (λ stop. IfLaid before old.known over
+      IfErr result (λ stop. IfLaid (AreAllRight old.answers.kept) before old.known over
       (λ seen. LacksMap seen (config_with old.config entries) stop))
   pub kind : IfErr result (CanLackMap (config_with old.config entries))
+  pub right : OnOk result (LeavesRight before old new)
 
 pub record MakesNext (before : FolderState) (old : Parts) (edit : List Change) (result : Result Pending EditStop)
     (after : FolderState) (new : Parts) : Type 0 where
@@ -85,9 +94,11 @@ pub record MakesNext (before : FolderState) (old : Parts) (edit : List Change) (
       IfErr result (λ stop. (tree : Tree) (state : SessionState) → before.holds ≡ Some tree
       → IsPartsOf tree old state → StopsEdit state edit stop)
   pub kind : IfErr result (CanStopEdit old.config edit)
+  pub right : OnOk result (LeavesRight before old new)
 
 pub record IsStep (old : Parts) (pending : Pending) (new : Parts) : Type 0 where
   pub laid : new.known.laid ≡ pending.over
   pub kept : new.known.kept ≡ old.known.kept
   pub config : new.config ≡ config_with old.config pending.entries
   pub generated : new.generated ≡ pending.generated
+  pub answers : new.answers.kept ≡ old.answers.next

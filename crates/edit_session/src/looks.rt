@@ -1,4 +1,5 @@
-ghost use Rattle.std.specs.Prelude.{◌≡◌, List, ℕ, OnOk};
+ghost use Rattle.std.specs.Prelude.{◌≡◌, List, ℕ, IfSome, OnOk};
+ghost use Rattle.kept_trace.specs.Ready.{AreAllRight};
 ghost use Rattle.package_lookup.specs.Looked.{over_at, Puts};
 ghost use Rattle.request_trace.specs.Tracing.{TakesSteps};
 ghost use Rattle.edit_session.specs.SessionTrees.{steps_of};
@@ -10,6 +11,7 @@ use crate::entries::Entries;
 use crate::standing::{Standing, standing_of};
 use crate::trying::try_map;
 use generation::{Generated, Stop};
+use kept_trace::TraceAnswers;
 use package_lookup::{Known, Over};
 use request_trace::Config;
 use shared_types::{Memory, Steps};
@@ -72,19 +74,24 @@ impl Looks {
     pub(crate) fn try_map<F: Folder, L: Ledger>(
         &mut self,
         alloc: Global,
+        answers: &mut TraceAnswers,
         config: &mut Config,
         entries: &mut Entries,
         folder: &mut F,
         steps: &mut Steps<L>,
     ) -> Result<Generated, Stop>
-        ensures tries { TriesMap (F.state folder.old) self.old.known config.old self.old.over entries.old result
-            (F.state folder.new) self.new.known self.new.over }
+        ensures tries { TriesMap (AreAllRight answers.old.kept) (F.state folder.old) self.old.known config.old
+            self.old.over entries.old result (F.state folder.new) self.new.known self.new.over }
         ensures config { config.new ≡ config.old }
         ensures entries { entries.new ≡ entries.old }
         ensures steps { TakesSteps result steps_of steps.old steps.new }
+        ensures kept { answers.new.kept ≡ answers.old.kept }
+        ensures right { IfSome (F.state folder.old).holds
+            (λ tree. AreAllRight answers.old.kept → AreAllRight answers.new.next) }
     {
         try_map(
             alloc,
+            answers,
             &mut self.known,
             config,
             &mut self.over,

@@ -1,10 +1,13 @@
-ghost use Rattle.std.specs.Prelude.{◌≡◌};
+ghost use Rattle.std.specs.Prelude.{◌≡◌, IfSome};
+ghost use Rattle.kept_trace.specs.Ready.{AreAllRight};
 ghost use Rattle.request_trace.specs.Tracing.{TakesSteps};
 ghost use Rattle.edit_session.specs.SessionTrees.{steps_of};
 ghost use Rattle.edit_session.specs.Trying.{TriesMap};
 
 use crate::entries::Entries;
-use generation::{Generated, Stop, generate_over};
+use crate::mapping::map_again;
+use generation::{Generated, Stop};
+use kept_trace::TraceAnswers;
 use package_lookup::{Known, Over};
 use request_trace::Config;
 use shared_types::Steps;
@@ -15,6 +18,7 @@ use tree_model::Folder;
 /// The map for other entries, where other looks are laid; what was laid and the entries are as before then.
 pub(crate) fn try_map<F: Folder, L: Ledger>(
     alloc: Global,
+    answers: &mut TraceAnswers,
     known: &mut Known,
     config: &mut Config,
     over: &mut Over,
@@ -22,15 +26,18 @@ pub(crate) fn try_map<F: Folder, L: Ledger>(
     folder: &mut F,
     steps: &mut Steps<L>,
 ) -> Result<Generated, Stop>
-    ensures tries { TriesMap (F.state folder.old) known.old config.old over.old entries.old result
-        (F.state folder.new) known.new over.new }
+    ensures tries { TriesMap (AreAllRight answers.old.kept) (F.state folder.old) known.old config.old over.old
+        entries.old result (F.state folder.new) known.new over.new }
     ensures config { config.new ≡ config.old }
     ensures entries { entries.new ≡ entries.old }
     ensures steps { TakesSteps result steps_of steps.old steps.new }
+    ensures kept { answers.new.kept ≡ answers.old.kept }
+    ensures right { IfSome (F.state folder.old).holds
+        (λ tree. AreAllRight answers.old.kept → AreAllRight answers.new.next) }
 {
     known.lay(over);
     entries.exchange(config);
-    let made = generate_over(alloc, folder, known, config, steps);
+    let made = map_again(alloc, answers, folder, known, config, steps);
     entries.exchange(config);
     known.lay(over);
     made
