@@ -4,6 +4,7 @@ mod LookedOn
 mod StandingLemmas
 mod TreesMade
 mod DraftsMade
+mod FrugalEdits
 mod MapsAgain
 mod MapsTried
 mod SessionSteps

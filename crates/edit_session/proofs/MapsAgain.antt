@@ -3,17 +3,25 @@
 --     learns_if                  what is learned of a folder, whether or not what is kept is right
 --     looks_if                   the folder is only looked at
 --     right_empty                where nothing is kept, all that is kept is right
-use Rattle.std.proofs.Common.{◌≡◌, ◌++◌, ℕ, List, Option, Some, None, IfSome, Result, Ok, Err, sym, ◌∙◌, subst}
-use Rattle.std.specs.Prelude.{All}
+--     leaves_answers             what is kept of a trace
+--     keeps_ok                   of one that leads somewhere
+use Rattle.std.proofs.Common.{◌≡◌, ◌++◌, ℕ, List, Option, Some, None, IfSome, Result, Ok, Err, sym, ap, ◌∙◌, subst}
+use Rattle.std.specs.Prelude.{All, OnOk}
+use Rattle.std.specs.FinMap.{get}
 use Rattle.std.proofs.lemmas.List.{append_cancel_left}
 use Rattle.std.proofs.lemmas.List.Elements.{All-contains}
+use Rattle.asking_spec.specs.Askings.{questions}
 use Rattle.tree_spec.proofs.Contained.{all_contained}
+use Rattle.tree_spec.specs.LookAskings.{Sights}
 use Rattle.tree_spec.specs.States.{FolderState, OnlyLooks}
 use Rattle.trace_spec.specs.Checks.{Gathered}
 use Rattle.trace_spec.specs.Modules.{Config}
+use Rattle.trace_spec.specs.Questions.{always}
+use Rattle.trace_spec.specs.Traces.{trace}
 use Rattle.trace_spec.specs.declared.TraceFault.{TraceFault}
 use Rattle.package_lookup.specs.Answered.{AsksOnce}
 use Rattle.package_lookup.specs.Learning.{Learns}
+use Rattle.package_lookup.specs.Looked.{Sees}
 use Rattle.package_lookup.specs.declared.known.Known.{Known}
 use Rattle.request_trace.specs.Tracing.{known_of, IsOfFootprint}
 use Rattle.kept_answers.specs.RightAnswers.{untold}
@@ -21,15 +29,17 @@ use Rattle.kept_answers.specs.Entries.{ModuleSeen, Request}
 use Rattle.kept_answers.specs.Tables.{IsModuleOf, IsRequestOf, modules_at, requests_at}
 use Rattle.kept_answers.specs.declared.requests.KeptRequest.{KeptRequest}
 use Rattle.kept_trace.specs.Ready.{AreAllRight, IsEmptyUnder}
-use Rattle.kept_trace.specs.Tracing.{TracesIf}
+use Rattle.kept_trace.specs.Keeping.{KeepsTraced}
+use Rattle.kept_trace.specs.Tracing.{KeepsAsked, TracesIf}
 use Rattle.kept_trace.specs.declared.kept.Kept.{Kept}
-use Rattle.generation.specs.Generating.{StopsAs}
+use Rattle.kept_trace.specs.declared.kept.TraceAnswers.{TraceAnswers}
+use Rattle.generation.specs.Generating.{IfSeen, StopsAs}
 use Rattle.generation.specs.Mapping.{MapsTrace}
 use Rattle.generation.specs.declared.generated.Generated.{Generated}
 use Rattle.generation.specs.declared.stop.Stop.{Stop}
 use Rattle.generation.specs.declared.stop.Stop.TheVariants.{ReadFault, Memory}
 use Rattle.generation.proofs.Generatings.{stopped, traced_there, refused_so, mapped}
-use Rattle.edit_session.specs.Mapping.{GeneratesIf}
+use Rattle.edit_session.specs.Mapping.{GeneratesIf, IsKeptFor, LeavesAnswers}
 use Rattle.edit_session.proofs.LookedOn.{some_told, all_told}
 
 module _ (right : Type 0) (config : Config) (before after : FolderState) (known later : Known) where
@@ -127,3 +137,27 @@ right_empty conditions kept empty = record {
     each = λ request found is. (let no : None ≡ Some found = sym (empty.requests request) ∙ is in absurd (cc));
   };
 }
+
+-- ---- what is kept
+
+pub leaves_answers : (config : Config) (before : FolderState) (known : Known) (old : Kept) (new : TraceAnswers)
+    → new.kept ≡ old → (AreAllRight old → KeepsTraced config before known new.next)
+    → IfSome before.holds (λ tree. AreAllRight old → AreAllRight new.next)
+    → LeavesAnswers old config before known new.next
+leaves_answers config before known old new same keeps right holds =
+    all_told (λ tree. IfSeen tree known (IsKeptFor old config new.next)) before.holds
+    (λ tree e seen sees under.
+    let named : new.next.requests.names ≡ config.conditions =
+    sym new.under ∙ (ap (λ (k : Kept). k.requests.names) same ∙ under) in
+    record {
+      right = some_told (λ tree. AreAllRight old → AreAllRight new.next) before.holds tree e right holds;
+      under = named;
+      complete = some_told
+          (λ tree. (sights : Sights) → Sees tree known sights → new.next.requests.names ≡ config.conditions
+          → KeepsAsked sights (questions (always sights) (trace config)) new.next)
+          before.holds tree e (keeps holds).asked (get seen) sees named;
+    })
+
+pub keeps_ok : {A E P Q : Type 0} (result : Result A E) → (P → Q) → OnOk result P → OnOk result Q
+keeps_ok (Ok value) goes holds = goes holds
+keeps_ok (Err fault) goes holds = tt

@@ -15,7 +15,9 @@ use Rattle.package_lookup.specs.declared.over.Over.{Over}
 use Rattle.package_lookup.specs.LaidTrees.{StandsBehind, IsLaid}
 use Rattle.package_lookup.specs.Looked.{over_at, Sees}
 use Rattle.package_lookup.proofs.Laying.{laid_is_seen}
-use Rattle.request_trace.specs.Tracing.{IsOfFootprint}
+use Rattle.request_trace.specs.Answering.{Freshness}
+use Rattle.request_trace.specs.Tracing.{IsOfFootprint, StepsByFresh, TakesFreshSteps}
+use Rattle.kept_trace.specs.declared.kept.Kept.{Kept}
 use Rattle.generation.specs.Generating.{IfSeen, IsMapOfTree}
 use Rattle.generation.specs.declared.generated.Generated.{Generated}
 use Rattle.generation.specs.declared.stop.Stop.{Stop}
@@ -23,7 +25,7 @@ use Rattle.generation.specs.declared.stop.Stop.TheVariants.{Refused, ReadFault, 
 use Rattle.session_spec.specs.SessionStates.{config_with, IsGenerated}
 use Rattle.edit_session.specs.LooksOn.{LooksOn}
 use Rattle.edit_session.specs.SessionTrees.{counts_in}
-use Rattle.edit_session.specs.Mapping.{GeneratesIf}
+use Rattle.edit_session.specs.Mapping.{GeneratesIf, IsKeptFor}
 use Rattle.edit_session.specs.Trying.{IfLaid, TriesMap}
 use Rattle.edit_session.proofs.LookedOn.{some_told, laid_back, stands_same}
 use Rattle.edit_session.proofs.MapsAgain.{learns_if, looks_if}
@@ -68,6 +70,20 @@ module _ (right : Type 0) (before after : FolderState) (known under learnt later
       some_told
       (λ tree. (sights : Sights) → Sees tree under sights
       → IsLookedAt sights (config_with config entries) path)
+      before.holds tree e (is holds) (get seen) (sees_so tree seen behind laid)
+
+  pub keeps_so : (kept next : Kept)
+      → (right → IfSome before.holds (λ tree. IfSeen tree under (IsKeptFor kept (config_with config entries) next)))
+      → IfLaid right before known over (IsKeptFor kept (config_with config entries) next)
+  keeps_so kept next is = laid_so (IsKeptFor kept (config_with config entries) next) is
+
+  pub fresh_so : (is_fresh : Freshness) (from to : ℕ)
+      → (right → TakesFreshSteps is_fresh (config_with config entries) before under from to)
+      → IfLaid right before known over (λ seen. StepsByFresh is_fresh (get seen) (config_with config entries) from to)
+  fresh_so is_fresh from to is holds tree seen e behind laid =
+      some_told
+      (λ tree. (sights : Sights) → Sees tree under sights
+      → StepsByFresh is_fresh sights (config_with config entries) from to)
       before.holds tree e (is holds) (get seen) (sees_so tree seen behind laid)
 
   abbrev MadeSo : Result Generated Stop → Type 0

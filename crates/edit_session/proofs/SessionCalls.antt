@@ -31,7 +31,7 @@ use Rattle.generation.specs.Generating.{IfSeen, IsMapOfTree, GeneratingOver, Ask
 use Rattle.generation.specs.declared.generated.Generated.{Generated}
 use Rattle.generation.specs.declared.stop.Stop.{Stop}
 use Rattle.generation.specs.declared.stop.Stop.TheVariants as stop
-use Rattle.kept_trace.specs.Ready.{AreAllRight}
+use Rattle.kept_trace.specs.declared.kept.Kept.{Kept}
 use Rattle.kept_trace.specs.declared.kept.TraceAnswers.{TraceAnswers}
 use Rattle.session_spec.specs.declared.Change.{Change}
 use Rattle.session_spec.specs.EditLooks.{IsEditLook}
@@ -39,11 +39,14 @@ use Rattle.session_spec.specs.Edits.{edited}
 use Rattle.session_spec.specs.Replies.{IsRefused, by_change, by_generation, fault_line, accepted_line}
 use Rattle.session_spec.specs.SessionStates.{SessionState, draft_of, config_with}
 use Rattle.generator_spec.specs.Lines.{line_of}
+use Rattle.edit_session.specs.KeptAnswers.{AreAnswersOf}
 use Rattle.edit_session.specs.LooksOn.{LooksOn}
+use Rattle.edit_session.specs.Mapping.{IsKeptFor}
 use Rattle.edit_session.specs.NewLooks.{AsksNew, AsksKept, LooksNew}
-use Rattle.edit_session.specs.SessionTrees.{counts_in, IsSessionOf, IsStateThen, AreRightThen}
+use Rattle.edit_session.specs.SessionTrees.{counts_in, IsSessionOf, IsStateThen, kept_then}
 use Rattle.edit_session.specs.Sessions.{IsOpened, OpensSession, IfRefused, StopsEdit, Accepts, Prepares, BecomesBy, Commits}
-use Rattle.edit_session.specs.Steps.{MakesNext, IsStep}
+use Rattle.edit_session.specs.Frugality.{IsFrugal}
+use Rattle.edit_session.specs.Steps.{MakesNext, IsStep, TakesFreshOf}
 use Rattle.edit_session.specs.SessionParts.{Parts, IsPartsOf, parts_of}
 use Rattle.edit_session.specs.declared.session.Pending.{Pending}
 use Rattle.edit_session.specs.declared.session.Prepared.{Prepared}
@@ -52,6 +55,7 @@ use Rattle.edit_session.specs.declared.session.Session.{Session}
 use Rattle.edit_session.specs.declared.stop.EditStop.{EditStop}
 use Rattle.edit_session.specs.declared.stop.EditStop.TheVariants.{Change as NoChange, Generation, ReadFault, Memory}
 use Rattle.edit_session.proofs.AskedPaths.{asks_as, asks_once_new}
+use Rattle.edit_session.proofs.FrugalEdits.{frugal_nothing}
 use Rattle.edit_session.proofs.LookedOn.{some_told, all_told, looks_on_nothing}
 use Rattle.edit_session.proofs.MapsTried.{generated_of}
 
@@ -88,7 +92,7 @@ session_by tree old new behind laid config generated answers state is = record {
     counts_are = is.is_state.counts_are ∙ sym (ap counts_in generated);
   };
   current = is.current;
-  right = subst AreAllRight (sym answers) is.right;
+  answers = subst (λ (kept : Kept). AreAnswersOf kept state.tree state.config) (sym answers) is.answers;
 }
 
 -- the line of an edit that isn't prepared
@@ -102,7 +106,7 @@ line_of_stop state edit Memory is = tt
 
 module _ (before after : FolderState) (old : Session) (mid : Parts) (edit : List Change) where
   cleared_so : (tree : Tree) (state : SessionState) → IsSessionOf tree old state → IsPartsOf tree (parts_of old) state
-  cleared_so tree state is = record { stands = is.stands; is_state = is.is_state; right = is.right }
+  cleared_so tree state is = record { stands = is.stands; is_state = is.is_state; answers = is.answers }
 
   abbrev AsksEdit : Tree → List ℕ → Type 0
   AsksEdit tree path = (state : SessionState) → IsSessionOf tree old state → IsEditLook state edit path
@@ -227,7 +231,8 @@ module _ (before after : FolderState) (old : Session) (mid : Parts) (edit : List
                 counts_are = leads.is_state.counts_are;
               };
               current = leads.accepted.current;
-              right = subst (λ (a : TraceAnswers). AreAllRight a.next) (sym answers) (is.right tree e is_state.right);
+              answers = subst (λ (a : TraceAnswers). AreAnswersOf a.next leads.next.tree leads.next.config) (sym answers)
+                  leads.answers;
             };
             accepted = leads.accepted;
           });
@@ -261,7 +266,7 @@ module _ (before : FolderState) (old new : Session) (known : new.known ≡ old.k
           is_there = there;
           is_state = then.is_state;
           current = is.current;
-          right = tt;
+          answers = then.answers;
         };
         accepted = record { made = refl; same_project = refl; current = is.current; said = refl };
       })
@@ -322,8 +327,8 @@ committed old new pending there none step = record {
           counts_are = then.counts_are ∙ ap counts_in (sym step.generated);
         };
         current = is_next.current;
-        right = subst AreAllRight (sym step.answers)
-            (subst (λ (p : Prepared). AreRightThen old p) same is_next.right);
+        answers = subst (λ (kept : Kept). AreAnswersOf kept next.tree next.config) (sym step.answers)
+            (subst (λ (p : Prepared). AreAnswersOf (kept_then old p) next.tree next.config) same is_next.answers);
       });
   steps = λ other e.
       subst (λ (p : Prepared). BecomesBy old p new) (same_prepared (Changed pending) other old.pending there e)
@@ -341,7 +346,12 @@ committed_same old new there none known config generated answers = record {
       subst (λ (p : Prepared). IsStateThen tree old p next) same is_next.is_state in
       session_by tree old new (λ stands. subst (StandsBehind tree) (sym known) stands) (ap (λ (k : Known). k.laid) known)
       config generated (ap (λ (a : TraceAnswers). a.kept) answers) next
-      (record { stands = is.stands; is_state = then; current = is_next.current; right = is.right }));
+      (record {
+        stands = is.stands;
+        is_state = then;
+        current = is_next.current;
+        answers = subst (λ (p : Prepared). AreAnswersOf (kept_then old p) next.tree next.config) same is_next.answers;
+      }));
   steps = λ other e.
       subst (λ (p : Prepared). BecomesBy old p new) (same_prepared Same other old.pending there e)
       (record { laid = ap (λ (k : Known). k.laid) known; config = config; generated = generated });
@@ -410,7 +420,8 @@ module _ (config : Config) (before after : FolderState) (known later : Known)
 
   module _ (session : Session) (found : Generated) (known_is : session.known ≡ later) (config_is : session.config ≡ config)
       (map_is : session.generated ≡ found)
-      (right : IfSome before.holds (λ tree. AreAllRight session.answers.kept)) where
+      (answers : IfSome before.holds
+      (λ tree. IfSeen tree known (λ seen. AreAnswersOf session.answers.kept seen config))) where
     is_opened : Made (Ok found) → (tree : Tree) → before.holds ≡ Some tree → IsOpened tree config session
     is_opened is tree e = record {
       state = record { tree = tree; config = config; map = found.map.items; counts = counts_in found };
@@ -427,7 +438,7 @@ module _ (config : Config) (before after : FolderState) (known later : Known)
           map_is = sym (ap (λ (g : Generated). g.map.items) map_is);
           counts_are = sym (ap counts_in map_is);
         };
-        right = some_told (λ tree. AreAllRight session.answers.kept) before.holds tree e right;
+        answers = in_tree (λ seen. AreAnswersOf session.answers.kept seen config) answers tree e;
         current = generated_of tree config found (in_tree (λ seen. IsMapOfTree seen config found) is.generated tree e);
       };
       tree_is = refl;
@@ -501,6 +512,16 @@ module _ (config : Config) (before after : FolderState) (known later : Known)
     };
   }
 
+-- the answers of the first trace, where they became those that are kept
+pub opened_answers : (before : FolderState) (known : Known) (config : Config) (old next kept : Kept) → kept ≡ next
+    → old.requests.names ≡ config.conditions
+    → IfSome before.holds (λ tree. IfSeen tree known (IsKeptFor old config next))
+    → IfSome before.holds (λ tree. IfSeen tree known (λ seen. AreAnswersOf kept seen config))
+opened_answers before known config old next kept same under is =
+    if_some {P = λ tree. IfSeen tree known (IsKeptFor old config next)}
+    {Q = λ tree. IfSeen tree known (λ seen. AreAnswersOf kept seen config)} before.holds
+    (λ tree each seen sees. subst (λ (k : Kept). AreAnswersOf k seen config) (sym same) (each seen sees under)) is
+
 -- ---- no memory for answers
 
 abbrev lacks : Result Session Stop
@@ -535,3 +556,18 @@ module _ (config : Config) (before : FolderState) where
       quiet = λ none. refl;
     };
   }
+
+-- ---- the steps of an edit
+
+pub frugal_session : (before : FolderState) (old : Session) (edit : List Change) (from to : ℕ)
+    → TakesFreshOf before (parts_of old) edit from to
+    → IfSome before.holds (λ tree. (state : SessionState) → IsSessionOf tree old state → IsFrugal state edit from to)
+frugal_session before old edit from to takes =
+    all_told (λ tree. (state : SessionState) → IsSessionOf tree old state → IsFrugal state edit from to) before.holds
+    (λ tree e state is. takes tree state e (record { stands = is.stands; is_state = is.is_state; answers = is.answers }))
+
+pub frugal_empty : (before : FolderState) (old : Session) (edit : List Change) (from to : ℕ) → to ≡ from
+    → IfSome before.holds (λ tree. (state : SessionState) → IsSessionOf tree old state → IsFrugal state edit from to)
+frugal_empty before old edit from to same =
+    all_told (λ tree. (state : SessionState) → IsSessionOf tree old state → IsFrugal state edit from to) before.holds
+    (λ tree e state is. frugal_nothing state edit from to same)

@@ -15,19 +15,24 @@ use Rattle.package_lookup.proofs.Laying.{laid_alike}
 use Rattle.generation.specs.declared.generated.Generated.{Generated}
 use Rattle.generation.specs.declared.stop.Stop.{Stop}
 use Rattle.generation.specs.declared.stop.Stop.TheVariants as map
-use Rattle.kept_trace.specs.Ready.{AreAllRight}
+use Rattle.request_trace.specs.Tracing.{StepsByFresh}
+use Rattle.kept_trace.proofs.FreshQuestions.{fresh_is_by_trees}
+use Rattle.kept_trace.specs.Ready.{AreAllRight, is_anew}
 use Rattle.session_spec.specs.declared.Change.{Change}
 use Rattle.session_spec.specs.EditLooks.{edit_looks, IsEditLook, of_change, of_generation}
 use Rattle.session_spec.specs.Edits.{Draft, edited}
 use Rattle.session_spec.specs.Replies.{accepted_line}
 use Rattle.session_spec.specs.SessionStates.{SessionState, draft_of, config_with, IsGenerated}
+use Rattle.kept_trace.specs.declared.kept.Kept.{Kept}
+use Rattle.edit_session.specs.KeptAnswers.{AreAnswersOf}
 use Rattle.edit_session.specs.LooksOn.{LooksOn}
+use Rattle.edit_session.specs.Mapping.{IsKeptFor}
 use Rattle.edit_session.specs.Making.{Work, work, IsDraftOf, LeavesDraft}
 use Rattle.edit_session.specs.SessionTrees.{counts_in}
 use Rattle.edit_session.specs.Sessions.{StopsEdit, CanStopEdit}
-use Rattle.edit_session.specs.Steps.{LeadsTo, CanLackMap, IsAsBefore, LeavesRight, GeneratesNext, MakesNext}
+use Rattle.edit_session.specs.Steps.{LeadsTo, CanLackMap, IsAsBefore, GeneratesNext, MakesNext, TakesFreshOf}
 use Rattle.edit_session.specs.Stopping.{stop_by, stop_for}
-use Rattle.edit_session.specs.Trying.{TriesMap}
+use Rattle.edit_session.specs.Trying.{IfLaid, TriesMap}
 use Rattle.edit_session.specs.SessionParts.{Parts, IsPartsOf}
 use Rattle.edit_session.specs.declared.session.Pending.{Pending}
 use Rattle.edit_session.specs.declared.stop.ChangeStop.{ChangeStop}
@@ -35,6 +40,7 @@ use Rattle.edit_session.specs.declared.stop.ChangeStop.TheVariants as change
 use Rattle.edit_session.specs.declared.stop.EditStop.{EditStop}
 use Rattle.edit_session.specs.declared.stop.EditStop.TheVariants.{Change as NoChange, Generation, ReadFault, Memory}
 use Rattle.edit_session.proofs.DraftsMade.{MakesAll}
+use Rattle.edit_session.proofs.FrugalEdits.{frugal}
 use Rattle.edit_session.proofs.LookedOn.{looks_on_then, looks_on_as, looks_on_nothing}
 
 abbrev Next : Type 0
@@ -85,7 +91,7 @@ module _ (before after : FolderState) (old new : Parts) (over left : Over) (entr
     generated = tt;
     refused = λ holds tree seen e behind laid. tries.refused holds tree seen e behind laid;
     kind = tries.kind;
-    right = tt;
+    keeps = tt;
   }
   no_next map.ReadFault tries = record {
     same = same;
@@ -95,7 +101,7 @@ module _ (before after : FolderState) (old new : Parts) (over left : Over) (entr
     generated = tt;
     refused = λ holds tree seen e behind laid. tt;
     kind = tt;
-    right = tt;
+    keeps = tt;
   }
   no_next map.Memory tries = record {
     same = same;
@@ -105,13 +111,14 @@ module _ (before after : FolderState) (old new : Parts) (over left : Over) (entr
     generated = tt;
     refused = λ holds tree seen e behind laid. tt;
     kind = tt;
-    right = tt;
+    keeps = tt;
   }
 
-  pub has_next : (pending : Pending) → pending.over ≡ left → pending.entries ≡ entries → LeavesRight before old new
+  pub has_next : (pending : Pending) → pending.over ≡ left → pending.entries ≡ entries
+      → IfLaid Right before old.known over (IsKeptFor old.answers.kept (config_with old.config entries) new.answers.next)
       → TriesMap Right before old.known old.config over entries (Ok pending.generated) after new.known left
       → GeneratesNext before old over entries (Ok pending) after new
-  has_next pending over_is entries_are leaves tries = record {
+  has_next pending over_is entries_are keeps tries = record {
     same = same;
     looks = looks_so (Ok pending.generated) (next_of pending) (λ e. absurd (cc)) (λ e. absurd (cc)) (λ e. absurd (cc)) tries;
     same_over = λ path. ap (λ o. over_at o path) over_is ∙ tries.same_over path;
@@ -119,7 +126,7 @@ module _ (before after : FolderState) (old new : Parts) (over left : Over) (entr
     generated = tries.generated;
     refused = tt;
     kind = tt;
-    right = leaves;
+    keeps = keeps;
   }
 
 -- ---- an edit
@@ -163,7 +170,6 @@ module _ (before middle : FolderState) (old mid : Parts) (edit : List Change) (o
     accepted = tt;
     refused = λ tree state e is. makes.leaves tree (draft_of state) e (draft_is tree state is);
     kind = makes.kind;
-    right = tt;
   }
   no_change change.ReadFault makes = record {
     same = same;
@@ -174,7 +180,6 @@ module _ (before middle : FolderState) (old mid : Parts) (edit : List Change) (o
     accepted = tt;
     refused = λ tree state e is. tt;
     kind = tt;
-    right = tt;
   }
   no_change change.Memory makes = record {
     same = same;
@@ -185,7 +190,6 @@ module _ (before middle : FolderState) (old mid : Parts) (edit : List Change) (o
     accepted = tt;
     refused = λ tree state e is. tt;
     kind = tt;
-    right = tt;
   }
 
   -- ---- all changes are made
@@ -200,7 +204,13 @@ module _ (before middle : FolderState) (old mid : Parts) (edit : List Change) (o
     left_by tree state e is = makes.leaves tree (draft_of state) e (draft_is tree state is)
 
     right_so : (tree : Tree) (state : SessionState) → IsPartsOf tree old state → AreAllRight mid.answers.kept
-    right_so tree state is = subst AreAllRight (sym same.answers) is.right
+    right_so tree state is = subst AreAllRight (sym same.answers) is.answers.right
+
+    under_so : (tree : Tree) (state : SessionState) → IsPartsOf tree old state
+        → mid.answers.kept.requests.names ≡ mid.config.conditions
+    under_so tree state is =
+        ap (λ (kept : Kept). kept.requests.names) same.answers
+        ∙ (is.answers.under ∙ ap (λ (config : Config). config.conditions) (is.is_state.config_is ∙ sym same.config))
 
     -- the config for which it is generated
     config_so : (state : SessionState) (draft : Draft) → state.config ≡ old.config → draft.entries ≡ later_entries
@@ -222,6 +232,22 @@ module _ (before middle : FolderState) (old mid : Parts) (edit : List Change) (o
         (config_so state next.0 is.is_state.config_is next.2.entries_are)
         (there (right_so tree state is) next.0.tree next.2.seen.stands next.2.seen.laid)))
 
+    pub frugal_all : (from to : ℕ)
+        → IfLaid (AreAllRight mid.answers.kept) middle mid.known between
+        (λ seen. StepsByFresh (is_anew mid.answers.kept) (get seen) (config_with mid.config later_entries) from to)
+        → TakesFreshOf before old edit from to
+    frugal_all from to taken tree state e is =
+        (let next = left_by tree state e is in
+        frugal fresh_is_by_trees mid.answers.kept state
+        (subst (λ (kept : Kept). AreAnswersOf kept state.tree state.config) (sym kept_so) is.answers) edit next.0 next.1
+        from to
+        (subst (λ config. StepsByFresh (is_anew mid.answers.kept) (get next.0.tree) config from to)
+        (config_so state next.0 is.is_state.config_is next.2.entries_are)
+        (taken (right_so tree state is) tree next.0.tree (told_on tree e) next.2.seen.stands next.2.seen.laid)))
+      where
+        kept_so : mid.answers.kept ≡ old.answers.kept
+        kept_so = same.answers
+
     looks_all : LooksOn before old.known after new.known (result ≡ Err ReadFault) (result ≡ Err Memory) AsksEdit
     looks_all =
         looks_on_then before middle after old.known mid.known new.known
@@ -240,10 +266,13 @@ module _ (before middle : FolderState) (old mid : Parts) (edit : List Change) (o
   module _ (makes : MakesAll edit first (Ok tt) second) (after : FolderState) (new : Parts) where
     leads : (pending : Pending) → GeneratesNext middle mid between later_entries (Ok pending) after new → (tree : Tree)
         (state : SessionState) → before.holds ≡ Some tree → IsPartsOf tree old state
-        → LeadsTo tree state edit old.config pending
+        → LeadsTo tree state edit old.config pending new.answers.next
     leads pending generates tree state e is =
         (let next = left_by makes after new (next_of pending) generates tree state e is in
         let entries_so : next.0.entries ≡ pending.entries = next.2.entries_are ∙ sym generates.same_entries in
+        let config_is : config_with mid.config later_entries ≡ config_with old.config pending.entries =
+        ap (λ (config : Config). config_with config later_entries) same.config
+        ∙ ap (config_with old.config) (sym generates.same_entries) in
         let state_after : SessionState = record {
           tree = next.0.tree;
           config = config_with old.config pending.entries;
@@ -264,10 +293,14 @@ module _ (before middle : FolderState) (old mid : Parts) (edit : List Change) (o
             made = next.1 ∙ (λ i. Ok (record { tree = next.0.tree; entries = entries_so i }));
             same_project = ap (λ (config : Config). config_with config pending.entries) (sym is.is_state.config_is);
             current = subst (λ config. IsGenerated next.0.tree config pending.generated.map.items (counts_in pending.generated))
-                (ap (λ (config : Config). config_with config later_entries) same.config ∙ ap (config_with old.config) (sym generates.same_entries))
+                config_is
                 (generates.generated (right_so makes after new (next_of pending) generates tree state is) tree next.0.tree (told_on makes after new (next_of pending) generates tree e) next.2.seen.stands next.2.seen.laid);
             said = refl;
           };
+          answers = subst (λ config. AreAnswersOf new.answers.next next.0.tree config) config_is
+              (generates.keeps (right_so makes after new (next_of pending) generates tree state is) tree next.0.tree
+              (told_on makes after new (next_of pending) generates tree e) next.2.seen.stands next.2.seen.laid
+              (under_so makes after new (next_of pending) generates tree state is));
         })
 
     pub accepted_next : (pending : Pending) → GeneratesNext middle mid between later_entries (Ok pending) after new
@@ -278,9 +311,6 @@ module _ (before middle : FolderState) (old mid : Parts) (edit : List Change) (o
       accepted = λ tree state e is. leads pending generates tree state e is;
       refused = tt;
       kind = tt;
-      right = λ tree e holds.
-          generates.right tree (told_on makes after new (next_of pending) generates tree e)
-          (subst AreAllRight (sym same.answers) holds);
     }
 
     refused_so : (stop : EditStop) → GeneratesNext middle mid between later_entries (Err stop) after new → (tree : Tree)
@@ -319,7 +349,6 @@ module _ (before middle : FolderState) (old mid : Parts) (edit : List Change) (o
       accepted = tt;
       refused = refused_so stop generates;
       kind = kind_so stop generates.kind;
-      right = tt;
     }
 
 pub lacks_next : (before : FolderState) (old : Parts) (edit : List Change)
@@ -331,7 +360,6 @@ lacks_next before old edit = record {
   accepted = tt;
   refused = λ tree state e is. tt;
   kind = tt;
-  right = tt;
 }
 
 -- whatever comes of the map

@@ -1,4 +1,6 @@
 pub mod Agreement
+pub mod KeptAnswers
+pub mod Frugality
 pub mod SessionTrees
 pub mod SessionParts
 pub mod NewLooks

@@ -12,9 +12,9 @@ use Rattle.package_lookup.specs.declared.known.Known.{Known}
 use Rattle.package_lookup.specs.declared.over.Over.{Over}
 use Rattle.package_lookup.specs.LaidTrees.{StandsBehind}
 use Rattle.generation.specs.declared.generated.Generated.{Generated}
-use Rattle.kept_trace.specs.Ready.{AreAllRight}
 use Rattle.kept_trace.specs.declared.kept.TraceAnswers.{TraceAnswers}
 use Rattle.session_spec.specs.SessionStates.{SessionState}
+use Rattle.edit_session.specs.KeptAnswers.{AreAnswersOf}
 use Rattle.edit_session.specs.SessionTrees.{IsStateOf}
 use Rattle.edit_session.specs.declared.made.Made.{Made}
 use Rattle.edit_session.specs.declared.session.Pending.{Pending}
@@ -37,7 +37,7 @@ parts_of session = parts session.known session.config session.generated session.
 pub record IsPartsOf (tree : Tree) (own : Parts) (state : SessionState) : Type 0 where
   pub stands : StandsBehind tree own.known
   pub is_state : IsStateOf tree own.known.laid own.config own.generated state
-  pub right : AreAllRight own.answers.kept
+  pub answers : AreAnswersOf own.answers.kept state.tree state.config
 
 abbrev pub pending_over : Over → Made → Pending
 pending_over over made = record { over = over; entries = made.entries; generated = made.generated }

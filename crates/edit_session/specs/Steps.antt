@@ -1,13 +1,14 @@
 -- The steps of an edit.
---     LeadsTo tree state edit config pending  the edit leads to what is pending, for this config
+--     LeadsTo tree state edit config pending kept      the edit leads to what is pending, for this config, and these are
+--                                             the answers of its trace
 --     LacksMap tree config stop               for this reason there is no map
 --     CanLackMap config stop                  there can be none, whatever the folder tells
 --     IsAsBefore old new                      but for what is kept, the parts are as before
---     LeavesRight before old new              answers that are right are kept for the next trace
 --     GeneratesNext before old over entries result after new      what is pending once the changes are made
 --     MakesNext before old edit result after new                  what is pending of an edit
+--     TakesFreshOf before old edit from to    an edit takes so many steps
 --     IsStep old pending new                  what is pending becomes the state
-use Rattle.std.specs.Prelude.{◌≡◌, ⊤, ℕ, List, Some, Result, Err, IfOk, IfErr, OnOk}
+use Rattle.std.specs.Prelude.{◌≡◌, ⊤, ℕ, List, Some, Result, Err, IfOk, IfErr}
 use Rattle.std.specs.FinMap.{get}
 use Rattle.tree_spec.specs.States.{FolderState}
 use Rattle.tree_spec.specs.Trees.{Tree}
@@ -23,7 +24,11 @@ use Rattle.session_spec.specs.declared.Change.{Change}
 use Rattle.session_spec.specs.EditLooks.{IsEditLook}
 use Rattle.session_spec.specs.Replies.{IsAccepted}
 use Rattle.session_spec.specs.SessionStates.{SessionState, config_with, IsGenerated}
+use Rattle.kept_trace.specs.declared.kept.Kept.{Kept}
+use Rattle.edit_session.specs.Frugality.{IsFrugal}
+use Rattle.edit_session.specs.KeptAnswers.{AreAnswersOf}
 use Rattle.edit_session.specs.LooksOn.{LooksOn}
+use Rattle.edit_session.specs.Mapping.{IsKeptFor}
 use Rattle.edit_session.specs.Sessions.{StopsEdit, CanStopEdit}
 use Rattle.edit_session.specs.SessionTrees.{IsStateOf, counts_in}
 use Rattle.edit_session.specs.Trying.{IfLaid}
@@ -32,12 +37,13 @@ use Rattle.edit_session.specs.declared.session.Pending.{Pending}
 use Rattle.edit_session.specs.declared.stop.EditStop.{EditStop}
 use Rattle.edit_session.specs.declared.stop.EditStop.TheVariants.{Change as NoChange, Generation, ReadFault, Memory}
 
-pub record LeadsTo (tree : Tree) (state : SessionState) (edit : List Change) (config : Config)
-    (pending : Pending) : Type 0 where
+pub record LeadsTo (tree : Tree) (state : SessionState) (edit : List Change) (config : Config) (pending : Pending)
+    (kept : Kept) : Type 0 where
   pub next : SessionState
   pub line : List ℕ
   pub is_state : IsStateOf tree pending.over (config_with config pending.entries) pending.generated next
   pub accepted : IsAccepted state edit next line
+  pub answers : AreAnswersOf kept next.tree next.config
 
 -- own: a generation stops for no change
 abbrev pub LacksMap : Tree → Config → EditStop → Type 0
@@ -58,11 +64,6 @@ pub record IsAsBefore (old new : Parts) : Type 0 where
   pub generated : new.generated ≡ old.generated
   pub answers : new.answers.kept ≡ old.answers.kept
 
--- own: where a tree is told and what was kept is right, what is kept for the next trace is right
-abbrev pub LeavesRight : FolderState → Parts → Parts → Type 0
-LeavesRight before old new =
-    (tree : Tree) → before.holds ≡ Some tree → AreAllRight old.answers.kept → AreAllRight new.answers.next
-
 pub record GeneratesNext (before : FolderState) (old : Parts) (over : Over) (entries : List (List ℕ))
     (result : Result Pending EditStop) (after : FolderState) (new : Parts) : Type 0 where
   pub same : IsAsBefore old new
@@ -79,7 +80,9 @@ pub record GeneratesNext (before : FolderState) (old : Parts) (over : Over) (ent
       IfErr result (λ stop. IfLaid (AreAllRight old.answers.kept) before old.known over
       (λ seen. LacksMap seen (config_with old.config entries) stop))
   pub kind : IfErr result (CanLackMap (config_with old.config entries))
-  pub right : OnOk result (LeavesRight before old new)
+  pub keeps :
+      IfOk result (λ pending. IfLaid (AreAllRight old.answers.kept) before old.known over
+      (IsKeptFor old.answers.kept (config_with old.config entries) new.answers.next))
 
 pub record MakesNext (before : FolderState) (old : Parts) (edit : List Change) (result : Result Pending EditStop)
     (after : FolderState) (new : Parts) : Type 0 where
@@ -89,12 +92,17 @@ pub record MakesNext (before : FolderState) (old : Parts) (edit : List Change) (
       (λ tree path. (state : SessionState) → IsPartsOf tree old state → IsEditLook state edit path)
   pub accepted :
       IfOk result (λ pending. (tree : Tree) (state : SessionState) → before.holds ≡ Some tree
-      → IsPartsOf tree old state → LeadsTo tree state edit old.config pending)
+      → IsPartsOf tree old state → LeadsTo tree state edit old.config pending new.answers.next)
   pub refused :
       IfErr result (λ stop. (tree : Tree) (state : SessionState) → before.holds ≡ Some tree
       → IsPartsOf tree old state → StopsEdit state edit stop)
   pub kind : IfErr result (CanStopEdit old.config edit)
-  pub right : OnOk result (LeavesRight before old new)
+
+-- own: each state of these parts
+abbrev pub TakesFreshOf : FolderState → Parts → List Change → ℕ → ℕ → Type 0
+TakesFreshOf before old edit from to =
+    (tree : Tree) (state : SessionState) → before.holds ≡ Some tree → IsPartsOf tree old state
+    → IsFrugal state edit from to
 
 pub record IsStep (old : Parts) (pending : Pending) (new : Parts) : Type 0 where
   pub laid : new.known.laid ≡ pending.over

@@ -1,8 +1,8 @@
-ghost use Rattle.std.specs.Prelude.{◌≡◌, ◌+◌, IfOk, IfSome};
+ghost use Rattle.std.specs.Prelude.{◌≡◌, ◌+◌, IfOk, OnOk};
 ghost use Rattle.generator_spec.specs.Generation.{PageIsFile};
-ghost use Rattle.kept_trace.specs.Ready.{AreAllRight};
-ghost use Rattle.request_trace.specs.Tracing.{TakesSteps};
-ghost use Rattle.edit_session.specs.Mapping.{GeneratesIf};
+ghost use Rattle.kept_trace.specs.Ready.{AreAllRight, is_anew};
+ghost use Rattle.request_trace.specs.Tracing.{TakesSteps, TakesFreshSteps};
+ghost use Rattle.edit_session.specs.Mapping.{GeneratesIf, LeavesAnswers};
 
 use generation::{ComputedDigests, Generated, Stop, map_of, stop_of};
 use kept_trace::TraceAnswers;
@@ -27,9 +27,11 @@ pub(crate) fn map_again<F: Folder, L: Ledger>(
         (F.state folder.new) known.new }
     ensures page { IfOk result (λ found. PageIsFile config.now) }
     ensures steps { TakesSteps result (λ found. found.modules + found.requests) steps.old steps.new }
+    ensures fresh { AreAllRight answers.old.kept → TakesFreshSteps (is_anew answers.old.kept) config.now
+        (F.state folder.old) known.old steps.old steps.new }
     ensures kept { answers.new.kept ≡ answers.old.kept }
-    ensures right { IfSome (F.state folder.old).holds
-        (λ tree. AreAllRight answers.old.kept → AreAllRight answers.new.next) }
+    ensures keeps { OnOk result (LeavesAnswers answers.old.kept config.now (F.state folder.old) known.old
+        answers.new.next) }
 {
     match answers.trace(alloc, folder, known, config, steps) {
         Err(fault) => Err(stop_of(fault)),

@@ -1,6 +1,6 @@
-ghost use Rattle.std.specs.Prelude.{◌≡◌, None, Some, true, is_some};
+ghost use Rattle.std.specs.Prelude.{◌≡◌, None, Some, true, is_some, IfSome};
 ghost use Rattle.request_trace.specs.Tracing.{TakesSteps};
-ghost use Rattle.kept_trace.specs.Ready.{AreAllRight};
+ghost use Rattle.kept_trace.specs.Ready.{IsEmptyUnder};
 ghost use Rattle.edit_session.specs.Agreement.{AgreeBut, next_over};
 
 use crate::entries::Entries;
@@ -67,7 +67,9 @@ pub(crate) struct Pending {
 }
 
 impl Session {
-    ghost use Rattle.edit_session.specs.SessionTrees.{shown_map, shown_counts, counts_told, steps_of, pending_steps};
+    ghost use Rattle.session_spec.specs.SessionStates.{SessionState};
+    ghost use Rattle.edit_session.specs.Frugality.{IsFrugal};
+    ghost use Rattle.edit_session.specs.SessionTrees.{IsSessionOf, shown_map, shown_counts, counts_told, steps_of, pending_steps};
     ghost use Rattle.edit_session.specs.SessionParts.{pending_over};
     ghost use Rattle.edit_session.specs.declared.session.Prepared.TheVariants.{Same, Changed};
     ghost use Rattle.edit_session.specs.Sessions.{OpensSession, Prepares, Commits};
@@ -96,7 +98,7 @@ impl Session {
         folder: &mut F,
         steps: &mut Steps<L>,
     ) -> Result<Session, Stop>
-        requires { AreAllRight answers.kept }
+        requires { IsEmptyUnder config.conditions answers.kept }
         ensures opens { OpensSession config (F.state folder.old) result (F.state folder.new) }
         ensures steps { TakesSteps result (λ session. steps_of session.generated) steps.old steps.new }
     {
@@ -133,6 +135,8 @@ impl Session {
     ) -> Result<(), EditStop>
         ensures prepares { Prepares (F.state folder.old) self.old edit.now result (F.state folder.new) self.new }
         ensures steps { TakesSteps result (λ done. pending_steps self.new) steps.old steps.new }
+        ensures fresh { IfSome (F.state folder.old).holds (λ tree. (state : SessionState) → IsSessionOf tree self.old state
+            → IsFrugal state edit.now steps.old steps.new) }
     {
         let mut looks = self.take_looks(alloc);
         if edit.is_empty() {

@@ -1,10 +1,14 @@
 ghost use Rattle.std.specs.Prelude.{◌≡◌, ℕ, List, IfOk, OnOk};
+ghost use Rattle.std.specs.FinMap.{get};
 ghost use Rattle.generation.specs.declared.generated.Generated.{Generated};
 ghost use Rattle.package_lookup.specs.Looked.{over_at};
-ghost use Rattle.request_trace.specs.Tracing.{TakesSteps};
+ghost use Rattle.request_trace.specs.Tracing.{StepsByFresh, TakesSteps};
+ghost use Rattle.kept_trace.specs.Ready.{AreAllRight, is_anew};
+ghost use Rattle.session_spec.specs.SessionStates.{config_with};
 ghost use Rattle.edit_session.specs.SessionTrees.{steps_of};
+ghost use Rattle.edit_session.specs.Trying.{IfLaid};
 ghost use Rattle.edit_session.specs.SessionParts.{parts, result_over};
-ghost use Rattle.edit_session.specs.Steps.{MakesNext, GeneratesNext, IsStep};
+ghost use Rattle.edit_session.specs.Steps.{MakesNext, GeneratesNext, IsStep, TakesFreshOf};
 
 use crate::changes::make_all;
 use crate::entries::Entries;
@@ -36,6 +40,8 @@ pub(crate) fn next<F: Folder, L: Ledger>(
         (F.state folder.new) (parts looks.new.known config.new generated answers.new) }
     ensures config { config.new ≡ config.old }
     ensures steps { TakesSteps result (λ made. steps_of made.generated) steps.old steps.new }
+    ensures fresh { (generated : Generated) → TakesFreshOf (F.state folder.old)
+        (parts looks.old.known config.old generated answers.old) edit.now steps.old steps.new }
 {
     match draft(alloc, looks, config) {
         Err(_) => Err(EditStop::Memory),
@@ -72,6 +78,8 @@ fn make<F: Folder, L: Ledger>(
         (F.state folder.new) (parts looks.new.known config.new generated answers.new) }
     ensures config { config.new ≡ config.old }
     ensures steps { TakesSteps result (λ made. steps_of made.generated) steps.old steps.new }
+    ensures fresh { (generated : Generated) → TakesFreshOf (F.state folder.old)
+        (parts looks.old.known config.old generated answers.old) edit.now steps.old steps.new }
 {
     let mut entries = entries;
     match make_all(alloc, looks, &mut entries, folder, edit.as_slice()) {
@@ -96,6 +104,9 @@ fn generate<F: Folder, L: Ledger>(
         (parts looks.new.known config.new generated answers.new) }
     ensures config { config.new ≡ config.old }
     ensures steps { TakesSteps result (λ made. steps_of made.generated) steps.old steps.new }
+    ensures fresh { IfLaid (AreAllRight answers.old.kept) (F.state folder.old) looks.old.known looks.old.over
+        (λ seen. StepsByFresh (is_anew answers.old.kept) (get seen) (config_with config.old entries)
+        steps.old steps.new) }
 {
     let mut entries = entries;
     let found = looks.try_map(alloc, answers, config, &mut entries, folder, steps);

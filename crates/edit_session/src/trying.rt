@@ -1,8 +1,11 @@
-ghost use Rattle.std.specs.Prelude.{◌≡◌, IfSome};
-ghost use Rattle.kept_trace.specs.Ready.{AreAllRight};
-ghost use Rattle.request_trace.specs.Tracing.{TakesSteps};
+ghost use Rattle.std.specs.Prelude.{◌≡◌, OnOk};
+ghost use Rattle.std.specs.FinMap.{get};
+ghost use Rattle.kept_trace.specs.Ready.{AreAllRight, is_anew};
+ghost use Rattle.request_trace.specs.Tracing.{StepsByFresh, TakesSteps};
+ghost use Rattle.session_spec.specs.SessionStates.{config_with};
+ghost use Rattle.edit_session.specs.Mapping.{IsKeptFor};
 ghost use Rattle.edit_session.specs.SessionTrees.{steps_of};
-ghost use Rattle.edit_session.specs.Trying.{TriesMap};
+ghost use Rattle.edit_session.specs.Trying.{IfLaid, TriesMap};
 
 use crate::entries::Entries;
 use crate::mapping::map_again;
@@ -31,9 +34,12 @@ pub(crate) fn try_map<F: Folder, L: Ledger>(
     ensures config { config.new ≡ config.old }
     ensures entries { entries.new ≡ entries.old }
     ensures steps { TakesSteps result steps_of steps.old steps.new }
+    ensures fresh { IfLaid (AreAllRight answers.old.kept) (F.state folder.old) known.old over.old
+        (λ seen. StepsByFresh (is_anew answers.old.kept) (get seen) (config_with config.old entries.old)
+        steps.old steps.new) }
     ensures kept { answers.new.kept ≡ answers.old.kept }
-    ensures right { IfSome (F.state folder.old).holds
-        (λ tree. AreAllRight answers.old.kept → AreAllRight answers.new.next) }
+    ensures keeps { OnOk result (IfLaid (AreAllRight answers.old.kept) (F.state folder.old) known.old
+        over.old (IsKeptFor answers.old.kept (config_with config.old entries.old) answers.new.next)) }
 {
     known.lay(over);
     entries.exchange(config);

@@ -1,7 +1,5 @@
 use Rattle.std.proofs.Common.{refl}
 use Rattle.edit_session.specs.SessionParts.{parts, pending_over}
-use Rattle.kept_trace.specs.Ready.{AreAllRight}
-use Rattle.edit_session.proofs.LookedOn.{some_told}
 use Rattle.edit_session.proofs.SessionSteps.{no_next, has_next}
 use Rattle.edit_session.proofs.steps.generate.Goals as goal
 
@@ -24,5 +22,4 @@ returns-in-Ok-clause-generates g c generated =
     (record { config = c.try_map-found.ensures.config; generated = refl; answers = c.try_map-found.ensures.kept })
     (pending_over c.try_map-found.new.self.over (record { entries = c.try_map-found.new.entries; generated = c.in-Ok.generated })) refl
     c.try_map-found.ensures.entries
-    (λ tree e holds. some_told (λ tree. AreAllRight c.args.answers.now.kept → AreAllRight c.try_map-found.new.answers.next)
-    (g.F.Folder.state c.args.folder.now).holds tree e c.try_map-found.ensures.right holds) (rw c.in-Ok.is at c.try_map-found.ensures.tries)
+    (rw c.in-Ok.is at c.try_map-found.ensures.keeps) (rw c.in-Ok.is at c.try_map-found.ensures.tries)

@@ -1,9 +1,8 @@
-use Rattle.edit_session.proofs.MapsAgain.{right_empty}
 use Rattle.edit_session.proofs.SessionCalls.{lacks_opening}
 use Rattle.edit_session.proofs.session.Session.open.Goals as goal
 
 pub open_by-requires : goal.open_by-requires
-open_by-requires g c = right_empty c.args.config.conditions c.in-Ok.answers.kept c.in-Ok.ensures.kept
+open_by-requires g c = c.in-Ok.ensures.kept
 
 pub returns-in-Err-clause-opens : goal.returns-in-Err-clause-opens
 returns-in-Err-clause-opens g c = lacks_opening c.args.config (g.F.Folder.state c.args.folder.now)

@@ -1,6 +1,6 @@
-use Rattle.std.proofs.Common.{◌∙◌, sym}
+use Rattle.std.proofs.Common.{◌∙◌, refl, sym}
 use Rattle.edit_session.specs.SessionParts.{parts, pending_over}
-use Rattle.edit_session.proofs.SessionCalls.{has_changes, not_prepared, prepared, prepared_empty}
+use Rattle.edit_session.proofs.SessionCalls.{frugal_empty, frugal_session, has_changes, not_prepared, prepared, prepared_empty}
 use Rattle.edit_session.proofs.session.Session.prepare.Goals as goal
 
 pub returns-then-is_empty-clause-prepares : goal.returns-then-is_empty-clause-prepares
@@ -31,3 +31,19 @@ returns-in-Ok-clause-prepares g c =
     (pending_over c.next.new.looks.over c.in-Ok.made) c.put_pending.ensures.pending
     (rw (c.in-Ok.is, c.take_looks-looks.ensures.known, c.take_looks-looks.ensures.config, c.take_looks-looks.ensures.answers)
     at (c.next.ensures.makes c.args.self.now.generated))
+
+pub returns-then-is_empty-clause-fresh : goal.returns-then-is_empty-clause-fresh
+returns-then-is_empty-clause-fresh g c =
+    frugal_empty (g.F.Folder.state c.args.folder.now) c.args.self.now c.args.edit.now _ _ refl
+
+pub returns-in-Err-clause-fresh : goal.returns-in-Err-clause-fresh
+returns-in-Err-clause-fresh g c =
+    frugal_session (g.F.Folder.state c.args.folder.now) c.args.self.now c.args.edit.now _ _
+    (rw (c.take_looks-looks.ensures.known, c.take_looks-looks.ensures.config, c.take_looks-looks.ensures.answers)
+    at (c.next.ensures.fresh c.args.self.now.generated))
+
+pub returns-in-Ok-clause-fresh : goal.returns-in-Ok-clause-fresh
+returns-in-Ok-clause-fresh g c =
+    frugal_session (g.F.Folder.state c.args.folder.now) c.args.self.now c.args.edit.now _ _
+    (rw (c.take_looks-looks.ensures.known, c.take_looks-looks.ensures.config, c.take_looks-looks.ensures.answers)
+    at (c.next.ensures.fresh c.args.self.now.generated))
