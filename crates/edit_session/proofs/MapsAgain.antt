@@ -4,7 +4,7 @@
 --     looks_if                   the folder is only looked at
 --     right_empty                where nothing is kept, all that is kept is right
 --     leaves_answers             what is kept of a trace
---     keeps_ok                   of one that leads somewhere
+--     keeps_ok, on_ok            of one that leads somewhere
 use Rattle.std.proofs.Common.{◌≡◌, ◌++◌, ℕ, List, Option, Some, None, IfSome, Result, Ok, Err, sym, ap, ◌∙◌, subst}
 use Rattle.std.specs.Prelude.{All, OnOk}
 use Rattle.std.specs.FinMap.{get}
@@ -161,3 +161,7 @@ leaves_answers config before known old new same keeps right holds =
 pub keeps_ok : {A E P Q : Type 0} (result : Result A E) → (P → Q) → OnOk result P → OnOk result Q
 keeps_ok (Ok value) goes holds = goes holds
 keeps_ok (Err fault) goes holds = tt
+
+pub on_ok : {A E P : Type 0} (result : Result A E) → P → OnOk result P
+on_ok (Ok value) holds = holds
+on_ok (Err fault) holds = tt

@@ -3,8 +3,7 @@ use Rattle.trace_spec.specs.declared.TraceFault.{TraceFault}
 use Rattle.request_trace.specs.Showing.{Traced, gathered_of}
 use Rattle.kept_trace.specs.Ready.{AreAllRight}
 use Rattle.kept_trace.specs.Tracing.{TracesIf}
-use Rattle.kept_trace.proofs.Readying.{on_ok}
-use Rattle.edit_session.proofs.MapsAgain.{stopped_if, mapped_if, leaves_answers}
+use Rattle.edit_session.proofs.MapsAgain.{stopped_if, mapped_if, leaves_answers, on_ok}
 use Rattle.edit_session.proofs.mapping.map_again.Goals as goal
 
 pub returns-in-Err-clause-generates : goal.returns-in-Err-clause-generates
