@@ -1,4 +1,4 @@
-use Rattle.std.proofs.Common.{Some, Ok, refl, ap, ◌∙◌}
+use Rattle.std.proofs.Common.{Some, Ok, refl, sym, ap, ◌∙◌, subst}
 use Rattle.package_lookup.specs.Lookups.{state_of}
 use Rattle.package_lookup.specs.Responses.{given, fails, no_memory}
 use Rattle.tree_spec.proofs.ToldStates.{if_all}
@@ -162,3 +162,15 @@ returns-in-Ok-false-clause-footprint g c = λ right.
     footprint_behind (state_of g.F.Folder.state c.args.lookup.now) (state_of g.F.Folder.state c.look_again.new.lookup) _
     (node c.args.request.now.conditions.now c.args.request.now.parent.now c.args.request.now.specifier.now)
     c.request_anew.result to.answered c.request_anew.ensures.footprint
+
+pub returns-in-Err-keep_again-clause-right : goal.returns-in-Err-keep_again-clause-right
+returns-in-Err-keep_again-clause-right g c =
+    if_all (g.F.Folder.state c.args.lookup.now.folder.now).holds
+    (λ tree of. c.keep_again.ensures.right
+    (subst (λ cs. IsRequestOf cs c.args.key c.args.found.now) (sym c.requires.next) of))
+
+pub returns-in-Ok-clause-right : goal.returns-in-Ok-clause-right
+returns-in-Ok-clause-right g c =
+    if_all (g.F.Folder.state c.args.lookup.now.folder.now).holds
+    (λ tree of. c.keep_again.ensures.right
+    (subst (λ cs. IsRequestOf cs c.args.key c.args.found.now) (sym c.requires.next) of))

@@ -24,8 +24,19 @@ returns-in-Err-clause-footprint g c = λ right.
     no_footprint (g.F.Folder.state c.args.lookup.now.folder.now) c.args.lookup.now.known.now
     (node c.args.request.now.conditions.now c.args.request.now.parent.now c.args.request.now.specifier.now) Memory
 
-pub returns-in-Ok-None-clause-answered : goal.returns-in-Ok-None-clause-answered
-returns-in-Ok-None-clause-answered g c = ?
+pub returns-in-None-clause-answered : goal.returns-in-None-clause-answered
+returns-in-None-clause-answered g c =
+    if_whatever (begun_of g.F.Folder.state c.args.lookup.now) (state_of g.F.Folder.state c.request_anew.new.lookup)
+    (node c.args.request.now.conditions.now c.args.request.now.parent.now c.args.request.now.specifier.now)
+    (responded (λ found. module_of found.value) c.request_anew.result) (AreRequests c.args.self.now)
+    c.request_anew.ensures.answered
 
-pub returns-in-Ok-Some-clause-answered : goal.returns-in-Ok-Some-clause-answered
-returns-in-Ok-Some-clause-answered g c = ?
+pub returns-in-Some-clause-answered : goal.returns-in-Some-clause-answered
+returns-in-Some-clause-answered g c =
+    if_when (begun_of g.F.Folder.state c.args.lookup.now) (state_of g.F.Folder.state c.request_again.new.lookup)
+    (node c.args.request.now.conditions.now c.args.request.now.parent.now c.args.request.now.specifier.now)
+    (responded (λ found. module_of found.value) c.request_again.result)
+    (IsRequestOf c.args.request.now.conditions.now c.in-Ok.key c.in-Some.found.now) (AreRequests c.args.self.now)
+    (right_as c.args.request.now.conditions.now c.in-Ok.key c.in-Some.found.now c.args.self.now c.requires.names
+    (rw c.in-Some.is at c.get.ensures.right))
+    c.request_again.ensures.answered
