@@ -2,9 +2,11 @@
 --     on_ok                        what is so whatever the result is
 --     right_by_module, right_by_request      where one answer more is kept
 --     nothing_wrong                where nothing is kept
---     right_with_none              beside nothing
-use Rattle.std.proofs.Common.{ℕ, List, Result, Ok, Err}
+--     right_with_none, right_still      beside nothing, and what is kept then
+use Rattle.std.proofs.Common.{ℕ, List, Option, IfSome, Result, Ok, Err}
 use Rattle.std.specs.Prelude.{OnOk}
+use Rattle.tree_spec.proofs.ToldStates.{if_some}
+use Rattle.tree_spec.specs.Trees.{Tree}
 use Rattle.kept_answers.specs.Tables.{AreModules, AreRequests}
 use Rattle.kept_answers.specs.declared.modules.KeptModules.{KeptModules}
 use Rattle.kept_answers.specs.declared.requests.KeptRequests.{KeptRequests}
@@ -41,3 +43,10 @@ nothing_wrong conditions kept none = record {
 pub right_with_none : (conditions : List (List ℕ)) (kept next : Kept) → IsEmptyUnder conditions next
     → AreAllRight kept → AreBothRight kept next
 right_with_none conditions kept next none right = record { before = right; here = nothing_wrong conditions next none }
+
+pub right_still : (kept next later : Kept) (conditions : List (List ℕ)) (told : Option Tree)
+    → IsEmptyUnder conditions next → IfSome told (λ tree. AreBothRight kept next → AreAllRight later)
+    → IfSome told (λ tree. AreAllRight kept → AreAllRight later)
+right_still kept next later conditions told none so =
+    if_some {P = λ tree. AreBothRight kept next → AreAllRight later} {Q = λ tree. AreAllRight kept → AreAllRight later}
+    told (λ tree stays right. stays (right_with_none conditions kept next none right)) so

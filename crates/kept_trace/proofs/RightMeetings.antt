@@ -190,9 +190,9 @@ pub traces_told : (right wider : Type 0) (config : Config) (before after : Folde
     (one other : Result Gathered TraceFault) → (wider → right)
     → ((from to : FolderState) → Traces config from known one to later → Traces config from known other to later)
     → TracesIf right config before known one after later → TracesIf wider config before known other after later
-traces_told right wider config before after known later one other so as traces = record {
-  is = λ holds. as before after (traces.is (so holds));
-  always = as (untold before) (untold after) traces.always;
+traces_told right wider config before after known later one other so told traces = record {
+  is = λ holds. told before after (traces.is (so holds));
+  always = told (untold before) (untold after) traces.always;
   tree = traces.tree;
   same = traces.same;
 }

@@ -8,7 +8,8 @@ use Rattle.tree_spec.proofs.ToldStates.{if_some}
 use Rattle.request_trace.proofs.AnswerLemmas.{traces_by, takes_moved, traced_kind}
 use Rattle.request_trace.proofs.AskedQuestions.{takes_fresh}
 use Rattle.request_trace.proofs.TrailPaths.{footprint_left}
-use Rattle.kept_trace.specs.Keeping.{keeps, stays_of}
+use Rattle.request_trace.specs.Footprints.{IsFootprint}
+use Rattle.kept_trace.specs.Keeping.{keeps, KeepsTraced}
 use Rattle.kept_trace.specs.Ready.{AreAllRight, AreBothRight, is_anew}
 use Rattle.kept_trace.proofs.AskedKept.{kept_left}
 use Rattle.kept_trace.proofs.Naming.{first_name, second_name, third_name, fourth_name, fifth_name}
@@ -28,7 +29,8 @@ returns-clause-footprint g c =
     let new = g.F.Folder.state c.walk.new.answerer.lookup.folder.now in
     let before = state old c.args.known.now c.args.trail.now in
     let after = state new c.walk.new.answerer.lookup.known.now c.walk.new.answerer.lookup.trail.now in
-    if_ok_so c.walk.result
+    if_ok_so (AreBothRight c.args.kept.now c.args.next.now)
+    (λ tables. IsFootprint c.args.config.now old c.args.known.now _ _) c.walk.result
     (λ right. footprint_left (is_anew c.args.kept.now) _ (keeps c.args.next.now) _ _ _ _ _ c.args.config.now before
     after _ _ c.walk.result c.requires.first
     (met_so (AreBothRight c.args.kept.now c.args.next.now) _ (is_anew c.args.kept.now) _ (keeps c.args.next.now) _ _ _ _ _
@@ -105,7 +107,8 @@ returns-clause-keeps g c =
     let new = g.F.Folder.state c.walk.new.answerer.lookup.folder.now in
     let before = state old c.args.known.now c.args.trail.now in
     let after = state new c.walk.new.answerer.lookup.known.now c.walk.new.answerer.lookup.trail.now in
-    on_ok_so c.walk.result
+    on_ok_so (AreBothRight c.args.kept.now c.args.next.now)
+    (KeepsTraced c.args.config.now old c.args.known.now _) c.walk.result
     (λ right. kept_left c.walk.result (is_anew c.args.kept.now) _ (keeps c.args.next.now) _ _ _ _ c.args.config.now before
     after c.walk.new.answerer.next.now _ (search rules) c.requires.first
     (met_so (AreBothRight c.args.kept.now c.args.next.now) _ (is_anew c.args.kept.now) _ (keeps c.args.next.now) _ _ _ _ _

@@ -15,6 +15,7 @@ use Rattle.kept_answers.specs.RightAnswers.{untold_state}
 use Rattle.kept_answers.specs.Tables.{AreModules}
 use Rattle.kept_trace.specs.Keeping.{keeps, stays_of}
 use Rattle.kept_trace.specs.Ready.{AreBothRight, is_anew}
+use Rattle.kept_trace.specs.declared.kept.Kept.{Kept}
 use Rattle.kept_trace.proofs.KeepingAnswers.{same_stays, keeps_module, keeps_given, seen_source}
 use Rattle.kept_trace.proofs.KeptSteps.{takes_by}
 use Rattle.kept_trace.proofs.Readying.{on_ok, right_by_module}
@@ -28,7 +29,7 @@ returns-clause-met g c =
     let after = state_of g.F.Folder.state c.answer-found.new.lookup in
     let asked = of_module c.args.path.now in
     let here = stays_of own.lookup own.steps.ghost_name own.next.ghost_name own.next.now in
-    let later = record { modules = c.answer-found.new.next; requests = own.next.now.requests } in
+    let later : Kept = record { modules = c.answer-found.new.next; requests = own.next.now.requests } in
     let there = stays_of c.answer-found.new.lookup own.steps.ghost_name own.next.ghost_name later in
     let same = same_stays own.lookup c.answer-found.new.lookup own.steps.ghost_name own.next.ghost_name own.next.now later
     refl c.answer-found.ensures.same in

@@ -16,6 +16,7 @@ use Rattle.kept_answers.proofs.FreshSteps.{anew_taken}
 use Rattle.kept_answers.proofs.RightAnswers.{same_by, untold_answered}
 use Rattle.kept_trace.specs.Keeping.{keeps, stays_of}
 use Rattle.kept_trace.specs.Ready.{AreBothRight, is_anew}
+use Rattle.kept_trace.specs.declared.kept.Kept.{Kept}
 use Rattle.kept_trace.proofs.KeepingAnswers.{same_stays, keeps_none, keeps_request, keeps_told, seen_module, seen_under, never_under}
 use Rattle.kept_trace.proofs.KeptSteps.{takes_by, none_kept, kept_under, told_met}
 use Rattle.kept_trace.proofs.Readying.{on_ok, right_by_request}
@@ -74,7 +75,7 @@ returns-clause-met g c =
     let after = state_of g.F.Folder.state c.answer-found.new.lookup in
     let asked = of_request c.args.conditions.now c.args.parent.now c.args.specifier.now in
     let under = c.is_under.ensures.is.0 c.if-not-is_under.false in
-    let later = record { modules = own.next.now.modules; requests = c.answer-found.new.next } in
+    let later : Kept = record { modules = own.next.now.modules; requests = c.answer-found.new.next } in
     let here = stays_of own.lookup own.steps.ghost_name own.next.ghost_name own.next.now in
     let there = stays_of c.answer-found.new.lookup own.steps.ghost_name own.next.ghost_name later in
     let same = same_stays own.lookup c.answer-found.new.lookup own.steps.ghost_name own.next.ghost_name own.next.now later

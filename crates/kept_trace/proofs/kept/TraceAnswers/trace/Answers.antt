@@ -1,6 +1,4 @@
-use Rattle.std.proofs.Common.{Result, sym, ◌∙◌, subst}
-use Rattle.std.specs.Prelude.{IfSome}
-use Rattle.tree_spec.proofs.ToldStates.{if_some}
+use Rattle.std.proofs.Common.{Result, sym, subst}
 use Rattle.trace_spec.specs.declared.TraceFault.{TraceFault}
 use Rattle.trace_spec.specs.declared.TraceFault.TheVariants.{Memory}
 use Rattle.trace_walk.proofs.FaultKinds.{handed}
@@ -8,9 +6,9 @@ use Rattle.trace_walk.specs.Shown.{before_of}
 use Rattle.request_trace.specs.Footprints.{IsFootprint}
 use Rattle.request_trace.specs.Showing.{Traced, gathered_of}
 use Rattle.request_trace.proofs.JoinedTables.{traces_lost, as_trace, takes_trace}
-use Rattle.kept_trace.specs.Ready.{AreAllRight, AreBothRight}
+use Rattle.kept_trace.specs.Ready.{AreAllRight}
 use Rattle.kept_trace.specs.Tracing.{TracesIf}
-use Rattle.kept_trace.proofs.Readying.{right_with_none}
+use Rattle.kept_trace.proofs.Readying.{right_with_none, right_still}
 use Rattle.kept_trace.proofs.RightMeetings.{traces_told}
 use Rattle.kept_trace.proofs.kept.TraceAnswers.trace.Goals as goal
 
@@ -58,10 +56,36 @@ pub returns-clause-keeps : goal.returns-clause-keeps
 returns-clause-keeps g c = λ right.
     c.in_ok-tables.ensures.keeps (right_with_none _ c.args.self.now.kept c.clear.new.self c.clear.ensures right)
 
+pub returns-in_err-tables-clause-right : goal.returns-in_err-tables-clause-right
+returns-in_err-tables-clause-right g c =
+    right_still c.args.self.now.kept c.clear.new.self c.tables_again.new.next _ (g.F.Folder.state c.args.folder.now).holds
+    c.clear.ensures c.tables_again.ensures.right
+
+pub returns-in_err-trace-clause-right : goal.returns-in_err-trace-clause-right
+returns-in_err-trace-clause-right g c =
+    right_still c.args.self.now.kept c.clear.new.self c.tables_again.new.next _ (g.F.Folder.state c.args.folder.now).holds
+    c.clear.ensures c.tables_again.ensures.right
+
 pub returns-clause-right : goal.returns-clause-right
 returns-clause-right g c =
-    if_some {P = λ tree. AreBothRight c.args.self.now.kept c.clear.new.self → AreAllRight c.tables_again.new.next}
-    {Q = λ tree. AreAllRight c.args.self.now.kept → AreAllRight c.tables_again.new.next}
-    (g.F.Folder.state c.args.folder.now).holds
-    (λ tree so right. so (right_with_none _ c.args.self.now.kept c.clear.new.self c.clear.ensures right))
-    c.tables_again.ensures.right
+    right_still c.args.self.now.kept c.clear.new.self c.tables_again.new.next _ (g.F.Folder.state c.args.folder.now).holds
+    c.clear.ensures c.tables_again.ensures.right
+
+pub returns-in_err-tables-clause-fresh : goal.returns-in_err-tables-clause-fresh
+returns-in_err-tables-clause-fresh g c = λ right.
+    c.tables_again.ensures.fresh (right_with_none _ c.args.self.now.kept c.clear.new.self c.clear.ensures right)
+
+pub returns-in_err-trace-clause-fresh : goal.returns-in_err-trace-clause-fresh
+returns-in_err-trace-clause-fresh g c = λ right.
+    c.tables_again.ensures.fresh (right_with_none _ c.args.self.now.kept c.clear.new.self c.clear.ensures right)
+
+pub returns-in_err-tables-clause-traces : goal.returns-in_err-tables-clause-traces
+returns-in_err-tables-clause-traces g c =
+    let before = g.F.Folder.state c.args.folder.now in
+    let after = g.F.Folder.state c.tables_again.new.folder in
+    let right = AreAllRight c.args.self.now.kept in
+    subst (λ (r : Result Traced TraceFault). TracesIf right c.args.config.now before c.args.known.now (gathered_of r) after c.tables_again.new.known)
+    (sym (handed c.from_residual.result _ c.from_residual.ensures.1))
+    (traces_told _ right c.args.config.now before after c.args.known.now c.tables_again.new.known _ _
+    (right_with_none _ c.args.self.now.kept c.clear.new.self c.clear.ensures)
+    (λ from to traces. traces) c.in_err-tables.ensures.traces)
