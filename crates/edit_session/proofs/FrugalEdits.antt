@@ -57,9 +57,9 @@ same_draft : (one other : Draft) (result : Result Draft EditFault) → result �
 same_draft one other result first last =
     (let both : Ok one ≡ Ok other = sym first ∙ last in let p : one ≡ other = cc in p)
 
-unrefused : {A : Type 0} (draft : Draft) (result : Result Draft EditFault) → result ≡ Ok draft → OnErr result A
-unrefused draft (Ok other) made = tt
-unrefused draft (Err fault) made = absurd (cc)
+unrefused : (A : Type 0) (draft : Draft) (result : Result Draft EditFault) → result ≡ Ok draft → OnErr result A
+unrefused A draft (Ok other) made = tt
+unrefused A draft (Err fault) made = absurd (cc)
 
 pub frugal : FreshIsByTrees → (kept : Kept) (state : SessionState) → AreAnswersOf kept state.tree state.config
     → (edit : List Change) (draft : Draft) → edited (draft_of state) edit ≡ Ok draft → (from to : ℕ)
@@ -72,5 +72,5 @@ frugal law kept state answers edit draft made from to taken = record {
       (same_draft draft other (edited (draft_of state) edit) made is)
       (takes_fresh law kept state.tree state.config answers draft.tree (config_with state.config draft.entries) from to
       taken);
-  refused = unrefused {A = to ≡ from} draft (edited (draft_of state) edit) made;
+  refused = unrefused (to ≡ from) draft (edited (draft_of state) edit) made;
 }

@@ -2,7 +2,7 @@ use Rattle.edit_session.proofs.SessionCalls.{lacks_opening}
 use Rattle.edit_session.proofs.session.Session.open.Goals as goal
 
 pub open_by-requires : goal.open_by-requires
-open_by-requires g c = c.in-Ok.ensures.kept
+open_by-requires g c = rw c.conditions.ensures at c.in-Ok.ensures.kept
 
 pub returns-in-Err-clause-opens : goal.returns-in-Err-clause-opens
 returns-in-Err-clause-opens g c = lacks_opening c.args.config (g.F.Folder.state c.args.folder.now)
