@@ -4,6 +4,8 @@ mod LookedOn
 mod StandingLemmas
 mod TreesMade
 mod DraftsMade
+mod FrugalEdits
+mod MapsAgain
 mod MapsTried
 mod SessionSteps
 mod SessionCalls

@@ -15,16 +15,20 @@ use Rattle.package_lookup.specs.declared.over.Over.{Over}
 use Rattle.package_lookup.specs.LaidTrees.{StandsBehind, IsLaid}
 use Rattle.package_lookup.specs.Looked.{over_at, Sees}
 use Rattle.package_lookup.proofs.Laying.{laid_is_seen}
-use Rattle.request_trace.specs.Tracing.{IsOfFootprint}
-use Rattle.generation.specs.Generating.{IfSeen, IsMapOfTree, GeneratingOver}
+use Rattle.request_trace.specs.Answering.{Freshness}
+use Rattle.request_trace.specs.Tracing.{IsOfFootprint, StepsByFresh, TakesFreshSteps}
+use Rattle.kept_trace.specs.declared.kept.Kept.{Kept}
+use Rattle.generation.specs.Generating.{IfSeen, IsMapOfTree}
 use Rattle.generation.specs.declared.generated.Generated.{Generated}
 use Rattle.generation.specs.declared.stop.Stop.{Stop}
 use Rattle.generation.specs.declared.stop.Stop.TheVariants.{Refused, ReadFault, Memory}
 use Rattle.session_spec.specs.SessionStates.{config_with, IsGenerated}
 use Rattle.edit_session.specs.LooksOn.{LooksOn}
 use Rattle.edit_session.specs.SessionTrees.{counts_in}
+use Rattle.edit_session.specs.Mapping.{GeneratesIf, IsKeptFor}
 use Rattle.edit_session.specs.Trying.{IfLaid, TriesMap}
 use Rattle.edit_session.proofs.LookedOn.{some_told, laid_back, stands_same}
+use Rattle.edit_session.proofs.MapsAgain.{learns_if, looks_if}
 
 -- what is generated is the map of the tree, with its counts
 pub generated_of : (tree : Tree) (config : Config) (found : Generated) → IsMapOfTree tree config found
@@ -46,7 +50,7 @@ generated_of tree config found is = record {
   };
 }
 
-module _ (before after : FolderState) (known under learnt later : Known) (config : Config) (over left : Over)
+module _ (right : Type 0) (before after : FolderState) (known under learnt later : Known) (config : Config) (over left : Over)
     (entries : List (List ℕ)) (laid_one : under.laid ≡ over) (kept_one : under.kept ≡ known.kept)
     (kept_two : later.kept ≡ learnt.kept) (laid_two : later.laid ≡ known.laid) (over_two : left ≡ learnt.laid) where
   sees_so : (tree seen : Tree) → StandsBehind tree known → IsLaid tree over seen → Sees tree under (get seen)
@@ -54,25 +58,40 @@ module _ (before after : FolderState) (known under learnt later : Known) (config
       laid_is_seen tree seen under (stands_same tree known under kept_one behind)
       (subst (λ o. IsLaid tree o seen) (sym laid_one) laid)
 
-  laid_so : (P : Tree → Type 0) → IfSome before.holds (λ tree. IfSeen tree under P) → IfLaid before known over P
-  laid_so P is tree seen e behind laid =
-      some_told (λ tree. IfSeen tree under P) before.holds tree e is seen (sees_so tree seen behind laid)
+  laid_so : (P : Tree → Type 0) → (right → IfSome before.holds (λ tree. IfSeen tree under P))
+      → IfLaid right before known over P
+  laid_so P is holds tree seen e behind laid =
+      some_told (λ tree. IfSeen tree under P) before.holds tree e (is holds) seen (sees_so tree seen behind laid)
 
   footprint_so : (path : List ℕ) (tree : Tree) → before.holds ≡ Some tree
-      → IsOfFootprint (config_with config entries) before under path → (seen : Tree) → StandsBehind tree known
-      → IsLaid tree over seen → IsLookedAt (get seen) (config_with config entries) path
-  footprint_so path tree e is seen behind laid =
+      → (right → IsOfFootprint (config_with config entries) before under path) → right → (seen : Tree)
+      → StandsBehind tree known → IsLaid tree over seen → IsLookedAt (get seen) (config_with config entries) path
+  footprint_so path tree e is holds seen behind laid =
       some_told
       (λ tree. (sights : Sights) → Sees tree under sights
       → IsLookedAt sights (config_with config entries) path)
-      before.holds tree e is (get seen) (sees_so tree seen behind laid)
+      before.holds tree e (is holds) (get seen) (sees_so tree seen behind laid)
+
+  pub keeps_so : (kept next : Kept)
+      → (right → IfSome before.holds (λ tree. IfSeen tree under (IsKeptFor kept (config_with config entries) next)))
+      → IfLaid right before known over (IsKeptFor kept (config_with config entries) next)
+  keeps_so kept next is = laid_so (IsKeptFor kept (config_with config entries) next) is
+
+  pub fresh_so : (is_fresh : Freshness) (from to : ℕ)
+      → (right → TakesFreshSteps is_fresh (config_with config entries) before under from to)
+      → IfLaid right before known over (λ seen. StepsByFresh is_fresh (get seen) (config_with config entries) from to)
+  fresh_so is_fresh from to is holds tree seen e behind laid =
+      some_told
+      (λ tree. (sights : Sights) → Sees tree under sights
+      → StepsByFresh is_fresh sights (config_with config entries) from to)
+      before.holds tree e (is holds) (get seen) (sees_so tree seen behind laid)
 
   abbrev MadeSo : Result Generated Stop → Type 0
-  MadeSo result = GeneratingOver (config_with config entries) before under result after learnt
+  MadeSo result = GeneratesIf right (config_with config entries) before under result after learnt
 
   abbrev Looked : Tree → List ℕ → Type 0
   Looked tree path =
-      (seen : Tree) → StandsBehind tree known → IsLaid tree over seen
+      right → (seen : Tree) → StandsBehind tree known → IsLaid tree over seen
       → IsLookedAt (get seen) (config_with config entries) path
 
   abbrev LooksSo : Result Generated Stop → Type 0
@@ -81,21 +100,23 @@ module _ (before after : FolderState) (known under learnt later : Known) (config
   looks_so : (result : Result Generated Stop) → MadeSo result → LooksSo result
   looks_so result is =
       laid_back before after known under learnt later no_trail no_trail (result ≡ Err Memory) (result ≡ Err ReadFault)
-      (result ≡ Err Memory) (IsOfFootprint (config_with config entries) before under) Looked kept_one kept_two laid_two
-      (λ e. e) footprint_so is.learns is.looks
+      (result ≡ Err Memory) (λ path. right → IsOfFootprint (config_with config entries) before under path) Looked kept_one kept_two laid_two
+      (λ e. e) footprint_so (learns_if right (config_with config entries) before after under learnt result is)
+      (looks_if right (config_with config entries) before after under learnt result is)
 
   over_so : (result : Result Generated Stop) → MadeSo result → (path : List ℕ) → over_at left path ≡ over_at over path
   over_so result is path =
-      ap (λ o. over_at o path) over_two ∙ (is.learns.known.laid path ∙ ap (λ o. over_at o path) laid_one)
+      ap (λ o. over_at o path) over_two ∙ (is.always.learns.known.laid path ∙ ap (λ o. over_at o path) laid_one)
 
   pub tries : (result : Result Generated Stop) → MadeSo result
-      → TriesMap before known config over entries result after later left
+      → TriesMap right before known config over entries result after later left
   tries (Ok found) is = record {
     looks = looks_so (Ok found) is;
     same_over = over_so (Ok found) is;
-    generated = λ tree seen e behind laid.
+    generated = λ holds tree seen e behind laid.
         generated_of seen (config_with config entries) found
-        (laid_so (λ seen. IsMapOfTree seen (config_with config entries) found) is.generated tree seen e behind laid);
+        (laid_so (λ seen. IsMapOfTree seen (config_with config entries) found) (λ holds. (is.is holds).generated) holds tree
+        seen e behind laid);
     refused = tt;
     kind = tt;
   }
@@ -103,12 +124,12 @@ module _ (before after : FolderState) (known under learnt later : Known) (config
     looks = looks_so (Err (Refused why)) is;
     same_over = over_so (Err (Refused why)) is;
     generated = tt;
-    refused = λ tree seen e behind laid.
+    refused = λ holds tree seen e behind laid.
         laid_so
         (λ seen. (command : Command) → IsGenerating command → Opens seen (config_with config entries) command
         → Refuses seen (config_with config entries) command why)
-        is.refused tree seen e behind laid Refresh tt (nothing Refresh refresh);
-    kind = is.kind Refresh tt;
+        (λ holds. (is.is holds).refused) holds tree seen e behind laid Refresh tt (nothing Refresh refresh);
+    kind = is.always.kind Refresh tt;
   }
   tries (Err ReadFault) is = record {
     looks = looks_so (Err ReadFault) is;

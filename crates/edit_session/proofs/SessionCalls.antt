@@ -1,16 +1,17 @@
 -- What the calls of a session come to.
-use Rattle.std.proofs.Common.{◌≡◌, ◌++◌, [], ℕ, List, Option, Some, None, Result, Ok, Err, IfSome, refl, sym, ap, ◌∙◌, subst, arith}
+use Rattle.std.proofs.Common.{◌≡◌, ◌++◌, [], ℕ, List, Option, Some, None, Result, Ok, Err, IfSome, refl, sym, ap, ◌∙◌, subst, arith, append-nil}
 use Rattle.std.specs.FinMap.{get}
 use Rattle.std.specs.HashMap as map
 use Rattle.std.specs.Prelude.{◌==◌, ◌∷◌, All, true, false, is_some, bytes_eq, length, ⊤}
 use Rattle.std.proofs.lemmas.Bool.{true≢false}
 use Rattle.std.proofs.lemmas.Bool.Decides.{Decides-eqb}
 use Rattle.std.proofs.lemmas.List.{append_cancel_left}
-use Rattle.std.proofs.lemmas.List.Elements.{All-weaker}
+use Rattle.std.proofs.lemmas.List.Elements.{All-nil, All-weaker}
 use Rattle.tree_spec.specs.LookAskings.{Sights}
 use Rattle.tree_spec.specs.LookLimits.{no_trail}
 use Rattle.tree_spec.specs.States.{FolderState}
 use Rattle.tree_spec.specs.Trees.{Tree, IsTree}
+use Rattle.tree_spec.proofs.FootprintSets.{distinct_none}
 use Rattle.tree_spec.proofs.ToldStates.{if_some}
 use Rattle.trace_spec.specs.Laws.{IsLookedAt}
 use Rattle.trace_spec.specs.Modules.{Config}
@@ -30,17 +31,22 @@ use Rattle.generation.specs.Generating.{IfSeen, IsMapOfTree, GeneratingOver, Ask
 use Rattle.generation.specs.declared.generated.Generated.{Generated}
 use Rattle.generation.specs.declared.stop.Stop.{Stop}
 use Rattle.generation.specs.declared.stop.Stop.TheVariants as stop
+use Rattle.kept_trace.specs.declared.kept.Kept.{Kept}
+use Rattle.kept_trace.specs.declared.kept.TraceAnswers.{TraceAnswers}
 use Rattle.session_spec.specs.declared.Change.{Change}
 use Rattle.session_spec.specs.EditLooks.{IsEditLook}
 use Rattle.session_spec.specs.Edits.{edited}
 use Rattle.session_spec.specs.Replies.{IsRefused, by_change, by_generation, fault_line, accepted_line}
 use Rattle.session_spec.specs.SessionStates.{SessionState, draft_of, config_with}
 use Rattle.generator_spec.specs.Lines.{line_of}
+use Rattle.edit_session.specs.KeptAnswers.{AreAnswersOf}
 use Rattle.edit_session.specs.LooksOn.{LooksOn}
+use Rattle.edit_session.specs.Mapping.{IsKeptFor}
 use Rattle.edit_session.specs.NewLooks.{AsksNew, AsksKept, LooksNew}
-use Rattle.edit_session.specs.SessionTrees.{counts_in, IsSessionOf, IsStateThen}
+use Rattle.edit_session.specs.SessionTrees.{counts_in, IsSessionOf, IsStateThen, kept_then}
 use Rattle.edit_session.specs.Sessions.{IsOpened, OpensSession, IfRefused, StopsEdit, Accepts, Prepares, BecomesBy, Commits}
-use Rattle.edit_session.specs.Steps.{MakesNext, IsStep}
+use Rattle.edit_session.specs.Frugality.{IsFrugal}
+use Rattle.edit_session.specs.Steps.{MakesNext, IsStep, TakesFreshOf}
 use Rattle.edit_session.specs.SessionParts.{Parts, IsPartsOf, parts_of}
 use Rattle.edit_session.specs.declared.session.Pending.{Pending}
 use Rattle.edit_session.specs.declared.session.Prepared.{Prepared}
@@ -49,6 +55,7 @@ use Rattle.edit_session.specs.declared.session.Session.{Session}
 use Rattle.edit_session.specs.declared.stop.EditStop.{EditStop}
 use Rattle.edit_session.specs.declared.stop.EditStop.TheVariants.{Change as NoChange, Generation, ReadFault, Memory}
 use Rattle.edit_session.proofs.AskedPaths.{asks_as, asks_once_new}
+use Rattle.edit_session.proofs.FrugalEdits.{frugal_nothing}
 use Rattle.edit_session.proofs.LookedOn.{some_told, all_told, looks_on_nothing}
 use Rattle.edit_session.proofs.MapsTried.{generated_of}
 
@@ -73,9 +80,9 @@ changed_same made pending changed same = (let no : Some (Changed made) ≡ Some 
 -- ---- an edit is prepared
 
 pub session_by : (tree : Tree) (old new : Session) (known : StandsBehind tree old.known → StandsBehind tree new.known)
-    → new.known.laid ≡ old.known.laid → new.config ≡ old.config → new.generated ≡ old.generated → (state : SessionState)
-    → IsSessionOf tree old state → IsSessionOf tree new state
-session_by tree old new behind laid config generated state is = record {
+    → new.known.laid ≡ old.known.laid → new.config ≡ old.config → new.generated ≡ old.generated
+    → new.answers.kept ≡ old.answers.kept → (state : SessionState) → IsSessionOf tree old state → IsSessionOf tree new state
+session_by tree old new behind laid config generated answers state is = record {
   stands = behind is.stands;
   is_state = record {
     laid = subst (λ over. IsLaid tree over state.tree) (sym laid) is.is_state.laid;
@@ -85,6 +92,7 @@ session_by tree old new behind laid config generated state is = record {
     counts_are = is.is_state.counts_are ∙ sym (ap counts_in generated);
   };
   current = is.current;
+  answers = subst (λ (kept : Kept). AreAnswersOf kept state.tree state.config) (sym answers) is.answers;
 }
 
 -- the line of an edit that isn't prepared
@@ -98,7 +106,7 @@ line_of_stop state edit Memory is = tt
 
 module _ (before after : FolderState) (old : Session) (mid : Parts) (edit : List Change) where
   cleared_so : (tree : Tree) (state : SessionState) → IsSessionOf tree old state → IsPartsOf tree (parts_of old) state
-  cleared_so tree state is = record { stands = is.stands; is_state = is.is_state }
+  cleared_so tree state is = record { stands = is.stands; is_state = is.is_state; answers = is.answers }
 
   abbrev AsksEdit : Tree → List ℕ → Type 0
   AsksEdit tree path = (state : SessionState) → IsSessionOf tree old state → IsEditLook state edit path
@@ -144,12 +152,13 @@ module _ (before after : FolderState) (old : Session) (mid : Parts) (edit : List
 
   module _ (result : Result Pending EditStop) (is : MakesNext before (parts_of old) edit result after mid) where
     stays_so : (new : Session) → new.known ≡ mid.known → new.config ≡ mid.config → new.generated ≡ mid.generated
-        → IfSome before.holds (λ tree. (state : SessionState) → IsSessionOf tree old state → IsSessionOf tree new state)
-    stays_so new known config generated =
+        → new.answers ≡ mid.answers → IfSome before.holds (λ tree. (state : SessionState) → IsSessionOf tree old state → IsSessionOf tree new state)
+    stays_so new known config generated answers =
         all_told (λ tree. (state : SessionState) → IsSessionOf tree old state → IsSessionOf tree new state) before.holds
         (λ tree e state there. session_by tree old new
         (λ stands. subst (StandsBehind tree) (sym known) (is.looks.behind tree e stands))
-        (ap (λ (k : Known). k.laid) known ∙ is.looks.laid) (config ∙ is.same.config) (generated ∙ is.same.generated) state there)
+        (ap (λ (k : Known). k.laid) known ∙ is.looks.laid) (config ∙ is.same.config) (generated ∙ is.same.generated)
+        (ap (λ (a : TraceAnswers). a.kept) answers ∙ is.same.answers) state there)
 
   why_so : (why : EditStop)
       → ((tree : Tree) (state : SessionState) → before.holds ≡ Some tree → IsPartsOf tree (parts_of old) state → StopsEdit state edit why)
@@ -169,7 +178,7 @@ module _ (before after : FolderState) (old : Session) (mid : Parts) (edit : List
   refusal_so Memory is = tt
 
   module _ (new : Session) (known : new.known ≡ mid.known) (config : new.config ≡ mid.config)
-      (generated : new.generated ≡ mid.generated) where
+      (generated : new.generated ≡ mid.generated) (answers : new.answers ≡ mid.answers) where
     looks_so : (failed some fails unfinished : Type 0) → (fails → failed) → (failed → fails) → (some → unfinished)
         → LooksOn before old.known after mid.known failed some AsksCleared
         → LooksNew before old.known after new.known fails unfinished Asks
@@ -189,7 +198,7 @@ module _ (before after : FolderState) (old : Session) (mid : Parts) (edit : List
       refused = refusal_so why (why_so why is.refused);
       why = why_so why is.refused;
       kind = is.kind;
-      stays = stays_so (next_stops why) is new known config generated;
+      stays = stays_so (next_stops why) is new known config generated answers;
       pending = tt;
       nothing_pending = none;
       same = ((λ e. absurd (filled e)), λ e. absurd (none_same new.pending none e));
@@ -222,13 +231,15 @@ module _ (before after : FolderState) (old : Session) (mid : Parts) (edit : List
                 counts_are = leads.is_state.counts_are;
               };
               current = leads.accepted.current;
+              answers = subst (λ (a : TraceAnswers). AreAnswersOf a.next leads.next.tree leads.next.config) (sym answers)
+                  leads.answers;
             };
             accepted = leads.accepted;
           });
       refused = tt;
       why = tt;
       kind = tt;
-      stays = stays_so (next_leads pending) is new known config generated;
+      stays = stays_so (next_leads pending) is new known config generated answers;
       pending = ap is_some there;
       nothing_pending = tt;
       same = ((λ e. absurd (filled e)), λ e. absurd (changed_same pending new.pending there e));
@@ -237,11 +248,11 @@ module _ (before after : FolderState) (old : Session) (mid : Parts) (edit : List
 -- ---- an edit without changes
 
 module _ (before : FolderState) (old new : Session) (known : new.known ≡ old.known) (config : new.config ≡ old.config)
-    (generated : new.generated ≡ old.generated) where
+    (generated : new.generated ≡ old.generated) (answers : new.answers ≡ old.answers) where
   same_session : (tree : Tree) (state : SessionState) → IsSessionOf tree old state → IsSessionOf tree new state
   same_session tree state is =
       session_by tree old new (λ stands. subst (StandsBehind tree) (sym known) stands) (ap (λ (k : Known). k.laid) known)
-      config generated state is
+      config generated (ap (λ (a : TraceAnswers). a.kept) answers) state is
 
   accepts_same : new.pending ≡ Some Same → (tree : Tree) (state : SessionState) → IsSessionOf tree old state
       → Accepts tree state [] new
@@ -250,7 +261,13 @@ module _ (before : FolderState) (old new : Session) (known : new.known ≡ old.k
       record {
         next = state;
         line = accepted_line state.counts;
-        is_pending = record { prepared = Same; is_there = there; is_state = then.is_state; current = is.current };
+        is_pending = record {
+          prepared = Same;
+          is_there = there;
+          is_state = then.is_state;
+          current = is.current;
+          answers = then.answers;
+        };
         accepted = record { made = refl; same_project = refl; current = is.current; said = refl };
       })
 
@@ -310,6 +327,8 @@ committed old new pending there none step = record {
           counts_are = then.counts_are ∙ ap counts_in (sym step.generated);
         };
         current = is_next.current;
+        answers = subst (λ (kept : Kept). AreAnswersOf kept next.tree next.config) (sym step.answers)
+            (subst (λ (p : Prepared). AreAnswersOf (kept_then old p) next.tree next.config) same is_next.answers);
       });
   steps = λ other e.
       subst (λ (p : Prepared). BecomesBy old p new) (same_prepared (Changed pending) other old.pending there e)
@@ -319,14 +338,20 @@ committed old new pending there none step = record {
 }
 
 pub committed_same : (old new : Session) → old.pending ≡ Some Same → new.pending ≡ None → new.known ≡ old.known
-    → new.config ≡ old.config → new.generated ≡ old.generated → Commits old new
-committed_same old new there none known config generated = record {
+    → new.config ≡ old.config → new.generated ≡ old.generated → new.answers ≡ old.answers → Commits old new
+committed_same old new there none known config generated answers = record {
   becomes = λ tree state next is is_next.
       (let same : is_next.prepared ≡ Same = same_prepared is_next.prepared Same old.pending is_next.is_there there in
       let then : IsStateThen tree old Same next =
       subst (λ (p : Prepared). IsStateThen tree old p next) same is_next.is_state in
       session_by tree old new (λ stands. subst (StandsBehind tree) (sym known) stands) (ap (λ (k : Known). k.laid) known)
-      config generated next (record { stands = is.stands; is_state = then; current = is_next.current }));
+      config generated (ap (λ (a : TraceAnswers). a.kept) answers) next
+      (record {
+        stands = is.stands;
+        is_state = then;
+        current = is_next.current;
+        answers = subst (λ (p : Prepared). AreAnswersOf (kept_then old p) next.tree next.config) same is_next.answers;
+      }));
   steps = λ other e.
       subst (λ (p : Prepared). BecomesBy old p new) (same_prepared Same other old.pending there e)
       (record { laid = ap (λ (k : Known). k.laid) known; config = config; generated = generated });
@@ -394,7 +419,9 @@ module _ (config : Config) (before after : FolderState) (known later : Known)
   gives found = Ok found
 
   module _ (session : Session) (found : Generated) (known_is : session.known ≡ later) (config_is : session.config ≡ config)
-      (map_is : session.generated ≡ found) where
+      (map_is : session.generated ≡ found)
+      (answers : IfSome before.holds
+      (λ tree. IfSeen tree known (λ seen. AreAnswersOf session.answers.kept seen config))) where
     is_opened : Made (Ok found) → (tree : Tree) → before.holds ≡ Some tree → IsOpened tree config session
     is_opened is tree e = record {
       state = record { tree = tree; config = config; map = found.map.items; counts = counts_in found };
@@ -411,6 +438,7 @@ module _ (config : Config) (before after : FolderState) (known later : Known)
           map_is = sym (ap (λ (g : Generated). g.map.items) map_is);
           counts_are = sym (ap counts_in map_is);
         };
+        answers = in_tree (λ seen. AreAnswersOf session.answers.kept seen config) answers tree e;
         current = generated_of tree config found (in_tree (λ seen. IsMapOfTree seen config found) is.generated tree e);
       };
       tree_is = refl;
@@ -483,3 +511,63 @@ module _ (config : Config) (before after : FolderState) (known later : Known)
       quiet = λ none. is.looks.quiet (λ e. none (let same : why ≡ stop.ReadFault = cc in ap no_session same));
     };
   }
+
+-- the answers of the first trace, where they became those that are kept
+pub opened_answers : (before : FolderState) (known : Known) (config : Config) (old next kept : Kept) → kept ≡ next
+    → old.requests.names ≡ config.conditions
+    → IfSome before.holds (λ tree. IfSeen tree known (IsKeptFor old config next))
+    → IfSome before.holds (λ tree. IfSeen tree known (λ seen. AreAnswersOf kept seen config))
+opened_answers before known config old next kept same under is =
+    if_some {P = λ tree. IfSeen tree known (IsKeptFor old config next)}
+    {Q = λ tree. IfSeen tree known (λ seen. AreAnswersOf kept seen config)} before.holds
+    (λ tree each seen sees. subst (λ (k : Kept). AreAnswersOf k seen config) (sym same) (each seen sees under)) is
+
+-- ---- no memory for answers
+
+abbrev lacks : Result Session Stop
+lacks = Err stop.Memory
+
+module _ (config : Config) (before : FolderState) where
+  asks_none : (old : List (List ℕ)) → before.asked ≡ Some old → AsksNoPathTwice old before
+  asks_none old e = record { more = []; asked = e ∙ ap Some (sym (append-nil old)); once = distinct_none }
+
+  within_none : (old : List (List ℕ)) → before.asked ≡ Some old → AsksFootprint config before.holds old before
+  within_none old e more asked =
+      (let none : more ≡ [] = same_more old more [] (sym asked ∙ (e ∙ ap Some (sym (append-nil old)))) in
+      all_told (λ tree. All (IsLookedAt (get tree) config) more) before.holds
+      (λ tree there. subst (All (IsLookedAt (get tree) config)) (sym none) (All-nil (IsLookedAt (get tree) config))))
+
+  pub lacks_opening : OpensSession config before (Err stop.Memory) before
+  lacks_opening = record {
+    opened = tt;
+    page = tt;
+    nothing_laid = tt;
+    nothing_pending = tt;
+    refused = tt;
+    kind = tt;
+    asked = all_told (λ old. AsksNoPathTwice old before) before.asked asks_none;
+    footprint = all_told (λ old. AsksFootprint config before.holds old before) before.asked within_none;
+    kept = tt;
+    looks = record {
+      tree = refl;
+      writes = refl;
+      later = omega arith;
+      cause = λ e. (let no : lacks ≡ Err stop.ReadFault = e in absurd (cc));
+      quiet = λ none. refl;
+    };
+  }
+
+-- ---- the steps of an edit
+
+pub frugal_session : (before : FolderState) (old : Session) (edit : List Change) (from to : ℕ)
+    → TakesFreshOf before (parts_of old) edit from to
+    → IfSome before.holds (λ tree. (state : SessionState) → IsSessionOf tree old state → IsFrugal state edit from to)
+frugal_session before old edit from to takes =
+    all_told (λ tree. (state : SessionState) → IsSessionOf tree old state → IsFrugal state edit from to) before.holds
+    (λ tree e state is. takes tree state e (record { stands = is.stands; is_state = is.is_state; answers = is.answers }))
+
+pub frugal_empty : (before : FolderState) (old : Session) (edit : List Change) (from to : ℕ) → to ≡ from
+    → IfSome before.holds (λ tree. (state : SessionState) → IsSessionOf tree old state → IsFrugal state edit from to)
+frugal_empty before old edit from to same =
+    all_told (λ tree. (state : SessionState) → IsSessionOf tree old state → IsFrugal state edit from to) before.holds
+    (λ tree e state is. frugal_nothing state edit from to same)

@@ -15,18 +15,24 @@ use Rattle.package_lookup.proofs.Laying.{laid_alike}
 use Rattle.generation.specs.declared.generated.Generated.{Generated}
 use Rattle.generation.specs.declared.stop.Stop.{Stop}
 use Rattle.generation.specs.declared.stop.Stop.TheVariants as map
+use Rattle.request_trace.specs.Tracing.{StepsByFresh}
+use Rattle.kept_trace.proofs.FreshQuestions.{fresh_is_by_trees}
+use Rattle.kept_trace.specs.Ready.{AreAllRight, is_anew}
 use Rattle.session_spec.specs.declared.Change.{Change}
 use Rattle.session_spec.specs.EditLooks.{edit_looks, IsEditLook, of_change, of_generation}
 use Rattle.session_spec.specs.Edits.{Draft, edited}
 use Rattle.session_spec.specs.Replies.{accepted_line}
 use Rattle.session_spec.specs.SessionStates.{SessionState, draft_of, config_with, IsGenerated}
+use Rattle.kept_trace.specs.declared.kept.Kept.{Kept}
+use Rattle.edit_session.specs.KeptAnswers.{AreAnswersOf}
 use Rattle.edit_session.specs.LooksOn.{LooksOn}
+use Rattle.edit_session.specs.Mapping.{IsKeptFor}
 use Rattle.edit_session.specs.Making.{Work, work, IsDraftOf, LeavesDraft}
 use Rattle.edit_session.specs.SessionTrees.{counts_in}
 use Rattle.edit_session.specs.Sessions.{StopsEdit, CanStopEdit}
-use Rattle.edit_session.specs.Steps.{LeadsTo, CanLackMap, IsAsBefore, GeneratesNext, MakesNext}
+use Rattle.edit_session.specs.Steps.{LeadsTo, CanLackMap, IsAsBefore, GeneratesNext, MakesNext, TakesFreshOf}
 use Rattle.edit_session.specs.Stopping.{stop_by, stop_for}
-use Rattle.edit_session.specs.Trying.{TriesMap}
+use Rattle.edit_session.specs.Trying.{IfLaid, TriesMap}
 use Rattle.edit_session.specs.SessionParts.{Parts, IsPartsOf}
 use Rattle.edit_session.specs.declared.session.Pending.{Pending}
 use Rattle.edit_session.specs.declared.stop.ChangeStop.{ChangeStop}
@@ -34,6 +40,7 @@ use Rattle.edit_session.specs.declared.stop.ChangeStop.TheVariants as change
 use Rattle.edit_session.specs.declared.stop.EditStop.{EditStop}
 use Rattle.edit_session.specs.declared.stop.EditStop.TheVariants.{Change as NoChange, Generation, ReadFault, Memory}
 use Rattle.edit_session.proofs.DraftsMade.{MakesAll}
+use Rattle.edit_session.proofs.FrugalEdits.{frugal}
 use Rattle.edit_session.proofs.LookedOn.{looks_on_then, looks_on_as, looks_on_nothing}
 
 abbrev Next : Type 0
@@ -58,20 +65,23 @@ made_stop stop = Err stop
 
 module _ (before after : FolderState) (old new : Parts) (over left : Over) (entries : List (List ℕ))
     (same : IsAsBefore old new) where
+  abbrev Right : Type 0
+  Right = AreAllRight old.answers.kept
+
   abbrev Asked : Tree → List ℕ → Type 0
   Asked tree path =
-      (seen : Tree) → StandsBehind tree old.known → IsLaid tree over seen
+      Right → (seen : Tree) → StandsBehind tree old.known → IsLaid tree over seen
       → IsLookedAt (get seen) (config_with old.config entries) path
 
   looks_so : (result : Result Generated Stop) (next : Next) → (next ≡ Err ReadFault → result ≡ Err map.ReadFault)
       → (result ≡ Err map.ReadFault → next ≡ Err ReadFault) → (result ≡ Err map.Memory → next ≡ Err Memory)
-      → TriesMap before old.known old.config over entries result after new.known left
+      → TriesMap Right before old.known old.config over entries result after new.known left
       → LooksOn before old.known after new.known (next ≡ Err ReadFault) (next ≡ Err Memory) Asked
   looks_so result next back on weaker tries =
       looks_on_as before after old.known new.known (result ≡ Err map.ReadFault) (result ≡ Err map.Memory)
       (next ≡ Err ReadFault) (next ≡ Err Memory) Asked Asked back on weaker (λ tree path e is. is) tries.looks
 
-  pub no_next : (stop : Stop) → TriesMap before old.known old.config over entries (Err stop) after new.known left
+  pub no_next : (stop : Stop) → TriesMap Right before old.known old.config over entries (Err stop) after new.known left
       → GeneratesNext before old over entries (Err (stop_for stop)) after new
   no_next (map.Refused why) tries = record {
     same = same;
@@ -79,8 +89,9 @@ module _ (before after : FolderState) (old new : Parts) (over left : Over) (entr
     same_over = tt;
     same_entries = tt;
     generated = tt;
-    refused = λ tree seen e behind laid. tries.refused tree seen e behind laid;
+    refused = λ holds tree seen e behind laid. tries.refused holds tree seen e behind laid;
     kind = tries.kind;
+    keeps = tt;
   }
   no_next map.ReadFault tries = record {
     same = same;
@@ -88,8 +99,9 @@ module _ (before after : FolderState) (old new : Parts) (over left : Over) (entr
     same_over = tt;
     same_entries = tt;
     generated = tt;
-    refused = λ tree seen e behind laid. tt;
+    refused = λ holds tree seen e behind laid. tt;
     kind = tt;
+    keeps = tt;
   }
   no_next map.Memory tries = record {
     same = same;
@@ -97,14 +109,16 @@ module _ (before after : FolderState) (old new : Parts) (over left : Over) (entr
     same_over = tt;
     same_entries = tt;
     generated = tt;
-    refused = λ tree seen e behind laid. tt;
+    refused = λ holds tree seen e behind laid. tt;
     kind = tt;
+    keeps = tt;
   }
 
   pub has_next : (pending : Pending) → pending.over ≡ left → pending.entries ≡ entries
-      → TriesMap before old.known old.config over entries (Ok pending.generated) after new.known left
+      → IfLaid Right before old.known over (IsKeptFor old.answers.kept (config_with old.config entries) new.answers.next)
+      → TriesMap Right before old.known old.config over entries (Ok pending.generated) after new.known left
       → GeneratesNext before old over entries (Ok pending) after new
-  has_next pending over_is entries_are tries = record {
+  has_next pending over_is entries_are keeps tries = record {
     same = same;
     looks = looks_so (Ok pending.generated) (next_of pending) (λ e. absurd (cc)) (λ e. absurd (cc)) (λ e. absurd (cc)) tries;
     same_over = λ path. ap (λ o. over_at o path) over_is ∙ tries.same_over path;
@@ -112,6 +126,7 @@ module _ (before after : FolderState) (old new : Parts) (over left : Over) (entr
     generated = tries.generated;
     refused = tt;
     kind = tt;
+    keeps = keeps;
   }
 
 -- ---- an edit
@@ -188,6 +203,15 @@ module _ (before middle : FolderState) (old mid : Parts) (edit : List Change) (o
         → LeavesDraft tree (edited (draft_of state) edit) (Ok tt) second
     left_by tree state e is = makes.leaves tree (draft_of state) e (draft_is tree state is)
 
+    right_so : (tree : Tree) (state : SessionState) → IsPartsOf tree old state → AreAllRight mid.answers.kept
+    right_so tree state is = subst AreAllRight (sym same.answers) is.answers.right
+
+    under_so : (tree : Tree) (state : SessionState) → IsPartsOf tree old state
+        → mid.answers.kept.requests.names ≡ mid.config.conditions
+    under_so tree state is =
+        ap (λ (kept : Kept). kept.requests.names) same.answers
+        ∙ (is.answers.under ∙ ap (λ (config : Config). config.conditions) (is.is_state.config_is ∙ sym same.config))
+
     -- the config for which it is generated
     config_so : (state : SessionState) (draft : Draft) → state.config ≡ old.config → draft.entries ≡ later_entries
         → config_with mid.config later_entries ≡ config_with state.config draft.entries
@@ -197,7 +221,7 @@ module _ (before middle : FolderState) (old mid : Parts) (edit : List Change) (o
 
     abbrev AsksMap : Tree → List ℕ → Type 0
     AsksMap tree path =
-        (seen : Tree) → StandsBehind tree mid.known → IsLaid tree between seen
+        AreAllRight mid.answers.kept → (seen : Tree) → StandsBehind tree mid.known → IsLaid tree between seen
         → IsLookedAt (get seen) (config_with mid.config later_entries) path
 
     asks_map : (tree : Tree) (path : List ℕ) → before.holds ≡ Some tree → AsksMap tree path → AsksEdit tree path
@@ -206,7 +230,23 @@ module _ (before middle : FolderState) (old mid : Parts) (edit : List Change) (o
         of_generation next.0 next.1
         (subst (λ config. IsLookedAt (get next.0.tree) config path)
         (config_so state next.0 is.is_state.config_is next.2.entries_are)
-        (there next.0.tree next.2.seen.stands next.2.seen.laid)))
+        (there (right_so tree state is) next.0.tree next.2.seen.stands next.2.seen.laid)))
+
+    pub frugal_all : (from to : ℕ)
+        → IfLaid (AreAllRight mid.answers.kept) middle mid.known between
+        (λ seen. StepsByFresh (is_anew mid.answers.kept) (get seen) (config_with mid.config later_entries) from to)
+        → TakesFreshOf before old edit from to
+    frugal_all from to taken tree state e is =
+        (let next = left_by tree state e is in
+        frugal fresh_is_by_trees mid.answers.kept state
+        (subst (λ (kept : Kept). AreAnswersOf kept state.tree state.config) (sym kept_so) is.answers) edit next.0 next.1
+        from to
+        (subst (λ config. StepsByFresh (is_anew mid.answers.kept) (get next.0.tree) config from to)
+        (config_so state next.0 is.is_state.config_is next.2.entries_are)
+        (taken (right_so tree state is) tree next.0.tree (told_on tree e) next.2.seen.stands next.2.seen.laid)))
+      where
+        kept_so : mid.answers.kept ≡ old.answers.kept
+        kept_so = same.answers
 
     looks_all : LooksOn before old.known after new.known (result ≡ Err ReadFault) (result ≡ Err Memory) AsksEdit
     looks_all =
@@ -220,15 +260,19 @@ module _ (before middle : FolderState) (old mid : Parts) (edit : List Change) (o
     same_all = record {
       config = generates.same.config ∙ same.config;
       generated = generates.same.generated ∙ same.generated;
+      answers = generates.same.answers ∙ same.answers;
     }
 
   module _ (makes : MakesAll edit first (Ok tt) second) (after : FolderState) (new : Parts) where
     leads : (pending : Pending) → GeneratesNext middle mid between later_entries (Ok pending) after new → (tree : Tree)
         (state : SessionState) → before.holds ≡ Some tree → IsPartsOf tree old state
-        → LeadsTo tree state edit old.config pending
+        → LeadsTo tree state edit old.config pending new.answers.next
     leads pending generates tree state e is =
         (let next = left_by makes after new (next_of pending) generates tree state e is in
         let entries_so : next.0.entries ≡ pending.entries = next.2.entries_are ∙ sym generates.same_entries in
+        let config_is : config_with mid.config later_entries ≡ config_with old.config pending.entries =
+        ap (λ (config : Config). config_with config later_entries) same.config
+        ∙ ap (config_with old.config) (sym generates.same_entries) in
         let state_after : SessionState = record {
           tree = next.0.tree;
           config = config_with old.config pending.entries;
@@ -249,10 +293,14 @@ module _ (before middle : FolderState) (old mid : Parts) (edit : List Change) (o
             made = next.1 ∙ (λ i. Ok (record { tree = next.0.tree; entries = entries_so i }));
             same_project = ap (λ (config : Config). config_with config pending.entries) (sym is.is_state.config_is);
             current = subst (λ config. IsGenerated next.0.tree config pending.generated.map.items (counts_in pending.generated))
-                (ap (λ (config : Config). config_with config later_entries) same.config ∙ ap (config_with old.config) (sym generates.same_entries))
-                (generates.generated tree next.0.tree (told_on makes after new (next_of pending) generates tree e) next.2.seen.stands next.2.seen.laid);
+                config_is
+                (generates.generated (right_so makes after new (next_of pending) generates tree state is) tree next.0.tree (told_on makes after new (next_of pending) generates tree e) next.2.seen.stands next.2.seen.laid);
             said = refl;
           };
+          answers = subst (λ config. AreAnswersOf new.answers.next next.0.tree config) config_is
+              (generates.keeps (right_so makes after new (next_of pending) generates tree state is) tree next.0.tree
+              (told_on makes after new (next_of pending) generates tree e) next.2.seen.stands next.2.seen.laid
+              (under_so makes after new (next_of pending) generates tree state is));
         })
 
     pub accepted_next : (pending : Pending) → GeneratesNext middle mid between later_entries (Ok pending) after new
@@ -270,7 +318,8 @@ module _ (before middle : FolderState) (old mid : Parts) (edit : List Change) (o
     refused_so (NoChange fault) generates tree state e is =
         (let next = left_by makes after new (stopped (NoChange fault)) generates tree state e is in
         absurd
-        (generates.refused tree next.0.tree (told_on makes after new (stopped (NoChange fault)) generates tree e) next.2.seen.stands next.2.seen.laid))
+        (generates.refused (right_so makes after new (stopped (NoChange fault)) generates tree state is) tree next.0.tree
+        (told_on makes after new (stopped (NoChange fault)) generates tree e) next.2.seen.stands next.2.seen.laid))
     refused_so (Generation why) generates tree state e is =
         (let stop = Generation why in
         let next = left_by makes after new (stopped stop) generates tree state e is in
@@ -279,7 +328,8 @@ module _ (before middle : FolderState) (old mid : Parts) (edit : List Change) (o
           made = next.1;
           refuses = subst (λ config. Refuses next.0.tree config Refresh why)
               (config_so makes after new (stopped stop) generates state next.0 is.is_state.config_is next.2.entries_are)
-              (generates.refused tree next.0.tree (told_on makes after new (stopped stop) generates tree e) next.2.seen.stands next.2.seen.laid);
+              (generates.refused (right_so makes after new (stopped stop) generates tree state is) tree next.0.tree
+              (told_on makes after new (stopped stop) generates tree e) next.2.seen.stands next.2.seen.laid);
         })
     refused_so ReadFault generates tree state e is = tt
     refused_so Memory generates tree state e is = tt
@@ -304,7 +354,7 @@ module _ (before middle : FolderState) (old mid : Parts) (edit : List Change) (o
 pub lacks_next : (before : FolderState) (old : Parts) (edit : List Change)
     → MakesNext before old edit (Err Memory) before old
 lacks_next before old edit = record {
-  same = record { config = refl; generated = refl };
+  same = record { config = refl; generated = refl; answers = refl };
   looks = looks_on_nothing before old.known (stopped Memory ≡ Err ReadFault) (stopped Memory ≡ Err Memory)
       (λ tree path. (state : SessionState) → IsPartsOf tree old state → IsEditLook state edit path) (λ e. absurd (cc));
   accepted = tt;

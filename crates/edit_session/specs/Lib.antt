@@ -1,4 +1,6 @@
 pub mod Agreement
+pub mod KeptAnswers
+pub mod Frugality
 pub mod SessionTrees
 pub mod SessionParts
 pub mod NewLooks
@@ -6,6 +8,7 @@ pub mod Sessions
 pub mod LooksOn
 pub mod Standings
 pub mod Making
+pub mod Mapping
 pub mod Trying
 pub mod Stopping
 pub mod Steps

@@ -1,6 +1,6 @@
 -- What an edit is made from, and what it makes.
---     Parts                           what is known, the config, and the map
---     parts known config generated    those of a session
+--     Parts                           what is known, the config, the map, and the answers that are kept
+--     parts known config generated answers      those of a session
 --     parts_of session                the same
 --     IsPartsOf tree parts state      the tree stands behind them, and this is their state
 --     pending_over over made          what is pending, where these are the looks of the edit
@@ -12,7 +12,9 @@ use Rattle.package_lookup.specs.declared.known.Known.{Known}
 use Rattle.package_lookup.specs.declared.over.Over.{Over}
 use Rattle.package_lookup.specs.LaidTrees.{StandsBehind}
 use Rattle.generation.specs.declared.generated.Generated.{Generated}
+use Rattle.kept_trace.specs.declared.kept.TraceAnswers.{TraceAnswers}
 use Rattle.session_spec.specs.SessionStates.{SessionState}
+use Rattle.edit_session.specs.KeptAnswers.{AreAnswersOf}
 use Rattle.edit_session.specs.SessionTrees.{IsStateOf}
 use Rattle.edit_session.specs.declared.made.Made.{Made}
 use Rattle.edit_session.specs.declared.session.Pending.{Pending}
@@ -23,16 +25,19 @@ pub record Parts : Type 0 where
   pub known : Known
   pub config : Config
   pub generated : Generated
+  pub answers : TraceAnswers
 
-abbrev pub parts : Known → Config → Generated → Parts
-parts known config generated = record { known = known; config = config; generated = generated }
+abbrev pub parts : Known → Config → Generated → TraceAnswers → Parts
+parts known config generated answers =
+    record { known = known; config = config; generated = generated; answers = answers }
 
 abbrev pub parts_of : Session → Parts
-parts_of session = parts session.known session.config session.generated
+parts_of session = parts session.known session.config session.generated session.answers
 
 pub record IsPartsOf (tree : Tree) (own : Parts) (state : SessionState) : Type 0 where
   pub stands : StandsBehind tree own.known
   pub is_state : IsStateOf tree own.known.laid own.config own.generated state
+  pub answers : AreAnswersOf own.answers.kept state.tree state.config
 
 abbrev pub pending_over : Over → Made → Pending
 pending_over over made = record { over = over; entries = made.entries; generated = made.generated }

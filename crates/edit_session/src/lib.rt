@@ -8,6 +8,7 @@ mod entries;
 mod files;
 mod looks;
 mod made;
+mod mapping;
 mod session;
 mod standing;
 mod steps;

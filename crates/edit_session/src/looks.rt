@@ -1,15 +1,20 @@
 ghost use Rattle.std.specs.Prelude.{◌≡◌, List, ℕ, OnOk};
+ghost use Rattle.kept_trace.specs.Ready.{AreAllRight, is_anew};
+ghost use Rattle.std.specs.FinMap.{get};
 ghost use Rattle.package_lookup.specs.Looked.{over_at, Puts};
-ghost use Rattle.request_trace.specs.Tracing.{TakesSteps};
+ghost use Rattle.request_trace.specs.Tracing.{StepsByFresh, TakesSteps};
+ghost use Rattle.session_spec.specs.SessionStates.{config_with};
+ghost use Rattle.edit_session.specs.Mapping.{IsKeptFor};
 ghost use Rattle.edit_session.specs.SessionTrees.{steps_of};
 ghost use Rattle.edit_session.specs.Agreement.{AgreeBut};
 ghost use Rattle.edit_session.specs.Standings.{Stands};
-ghost use Rattle.edit_session.specs.Trying.{TriesMap};
+ghost use Rattle.edit_session.specs.Trying.{IfLaid, TriesMap};
 
 use crate::entries::Entries;
 use crate::standing::{Standing, standing_of};
 use crate::trying::try_map;
 use generation::{Generated, Stop};
+use kept_trace::TraceAnswers;
 use package_lookup::{Known, Over};
 use request_trace::Config;
 use shared_types::{Memory, Steps};
@@ -72,19 +77,27 @@ impl Looks {
     pub(crate) fn try_map<F: Folder, L: Ledger>(
         &mut self,
         alloc: Global,
+        answers: &mut TraceAnswers,
         config: &mut Config,
         entries: &mut Entries,
         folder: &mut F,
         steps: &mut Steps<L>,
     ) -> Result<Generated, Stop>
-        ensures tries { TriesMap (F.state folder.old) self.old.known config.old self.old.over entries.old result
-            (F.state folder.new) self.new.known self.new.over }
+        ensures tries { TriesMap (AreAllRight answers.old.kept) (F.state folder.old) self.old.known config.old
+            self.old.over entries.old result (F.state folder.new) self.new.known self.new.over }
         ensures config { config.new ≡ config.old }
         ensures entries { entries.new ≡ entries.old }
         ensures steps { TakesSteps result steps_of steps.old steps.new }
+        ensures fresh { IfLaid (AreAllRight answers.old.kept) (F.state folder.old) self.old.known self.old.over
+            (λ seen. StepsByFresh (is_anew answers.old.kept) (get seen) (config_with config.old entries.old)
+            steps.old steps.new) }
+        ensures kept { answers.new.kept ≡ answers.old.kept }
+        ensures keeps { OnOk result (IfLaid (AreAllRight answers.old.kept) (F.state folder.old) self.old.known
+            self.old.over (IsKeptFor answers.old.kept (config_with config.old entries.old) answers.new.next)) }
     {
         try_map(
             alloc,
+            answers,
             &mut self.known,
             config,
             &mut self.over,

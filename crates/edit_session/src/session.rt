@@ -1,13 +1,16 @@
-ghost use Rattle.std.specs.Prelude.{◌≡◌, None, Some, true, is_some};
+ghost use Rattle.std.specs.Prelude.{◌≡◌, None, Some, true, is_some, IfSome};
 ghost use Rattle.request_trace.specs.Tracing.{TakesSteps};
+ghost use Rattle.kept_trace.specs.Ready.{IsEmptyUnder};
 ghost use Rattle.edit_session.specs.Agreement.{AgreeBut, next_over};
 
 use crate::entries::Entries;
 use crate::looks::Looks;
 use crate::made::Made;
+use crate::mapping::map_again;
 use crate::steps::{next, step};
 use crate::stop::EditStop;
-use generation::{Generated, Stop, generate_over};
+use generation::{Generated, Stop};
+use kept_trace::TraceAnswers;
 use package_lookup::{Known, Over};
 use request_trace::Config;
 use session_spec::Change;
@@ -29,12 +32,15 @@ pub struct Counts {
 }
 
 /// A map that is kept current: the config, what was seen of the folder, what edits laid over it, and the map that is
-/// generated for these; and beside them what an edit that is prepared would make of them.
+/// generated for these; and beside them what an edit that is prepared would make of them. The answers of the map's trace
+/// are kept, so an edit costs what it changed.
 #[derive(Drop)]
 pub struct Session {
     known: Known,
     config: Config,
     generated: Generated,
+    // Those of the map's trace; and those of the trace behind what is pending, if a map is.
+    answers: TraceAnswers,
     pending: Option<Prepared>,
     // Looks for the next edit, unless what is pending has them; and the paths at which they may be others than those
     // that are laid.
@@ -61,7 +67,9 @@ pub(crate) struct Pending {
 }
 
 impl Session {
-    ghost use Rattle.edit_session.specs.SessionTrees.{shown_map, shown_counts, counts_told, steps_of, pending_steps};
+    ghost use Rattle.session_spec.specs.SessionStates.{SessionState};
+    ghost use Rattle.edit_session.specs.Frugality.{IsFrugal};
+    ghost use Rattle.edit_session.specs.SessionTrees.{IsSessionOf, shown_map, shown_counts, counts_told, steps_of, pending_steps};
     ghost use Rattle.edit_session.specs.SessionParts.{pending_over};
     ghost use Rattle.edit_session.specs.declared.session.Prepared.TheVariants.{Same, Changed};
     ghost use Rattle.edit_session.specs.Sessions.{OpensSession, Prepares, Commits};
@@ -76,16 +84,37 @@ impl Session {
         ensures opens { OpensSession config (F.state folder.old) result (F.state folder.new) }
         ensures steps { TakesSteps result (λ session. steps_of session.generated) steps.old steps.new }
     {
+        match TraceAnswers::new(alloc, config.conditions()) {
+            Err(_) => Err(Stop::Memory),
+            Ok(answers) => Session::open_by(alloc, answers, config, folder, steps),
+        }
+    }
+
+    // The same, by answers of which none is kept yet.
+    fn open_by<F: Folder, L: Ledger>(
+        alloc: Global,
+        answers: TraceAnswers,
+        config: Config,
+        folder: &mut F,
+        steps: &mut Steps<L>,
+    ) -> Result<Session, Stop>
+        requires { IsEmptyUnder config.conditions answers.kept }
+        ensures opens { OpensSession config (F.state folder.old) result (F.state folder.new) }
+        ensures steps { TakesSteps result (λ session. steps_of session.generated) steps.old steps.new }
+    {
+        let mut answers = answers;
         let mut known = Known::new(alloc);
-        match generate_over(alloc, folder, &mut known, &config, steps) {
+        match map_again(alloc, &mut answers, folder, &mut known, &config, steps) {
             Err(stop) => Err(stop),
             Ok(generated) => {
+                answers.exchange();
                 let spare = Over::new(alloc);
                 let changed = Vec::new(alloc);
                 Ok(Session {
                     known,
                     config,
                     generated,
+                    answers,
                     pending: None,
                     spare,
                     changed,
@@ -106,13 +135,23 @@ impl Session {
     ) -> Result<(), EditStop>
         ensures prepares { Prepares (F.state folder.old) self.old edit.now result (F.state folder.new) self.new }
         ensures steps { TakesSteps result (λ done. pending_steps self.new) steps.old steps.new }
+        ensures fresh { IfSome (F.state folder.old).holds (λ tree. (state : SessionState) → IsSessionOf tree self.old state
+            → IsFrugal state edit.now steps.old steps.new) }
     {
         let mut looks = self.take_looks(alloc);
         if edit.is_empty() {
             self.put_same(looks);
             return Ok(());
         }
-        match next(alloc, &mut looks, &mut self.config, edit, folder, steps) {
+        match next(
+            alloc,
+            &mut self.answers,
+            &mut looks,
+            &mut self.config,
+            edit,
+            folder,
+            steps,
+        ) {
             Err(stop) => {
                 self.put_back(looks);
                 Err(stop)
@@ -129,6 +168,7 @@ impl Session {
         ensures known { result.known ≡ self.old.known }
         ensures config { self.new.config ≡ self.old.config }
         ensures generated { self.new.generated ≡ self.old.generated }
+        ensures answers { self.new.answers ≡ self.old.answers }
         ensures pending { self.new.pending ≡ None }
     {
         let spare = mem::replace(&mut self.spare, Over::new(alloc));
@@ -161,6 +201,7 @@ impl Session {
         ensures known { self.new.known ≡ looks.known }
         ensures config { self.new.config ≡ self.old.config }
         ensures generated { self.new.generated ≡ self.old.generated }
+        ensures answers { self.new.answers ≡ self.old.answers }
         ensures pending { self.new.pending ≡ None }
     {
         let Looks {
@@ -178,6 +219,7 @@ impl Session {
         ensures known { self.new.known ≡ looks.known }
         ensures config { self.new.config ≡ self.old.config }
         ensures generated { self.new.generated ≡ self.old.generated }
+        ensures answers { self.new.answers ≡ self.old.answers }
         ensures pending { self.new.pending ≡ Some Same }
     {
         self.put_back(looks);
@@ -188,6 +230,7 @@ impl Session {
         ensures known { self.new.known ≡ looks.known }
         ensures config { self.new.config ≡ self.old.config }
         ensures generated { self.new.generated ≡ self.old.generated }
+        ensures answers { self.new.answers ≡ self.old.answers }
         ensures pending { self.new.pending ≡ Some (Changed (pending_over looks.over made)) }
     {
         let Looks {
@@ -218,6 +261,7 @@ impl Session {
                 &mut self.known,
                 &mut self.config,
                 &mut self.generated,
+                &mut self.answers,
                 &mut self.spare,
                 pending,
             ),

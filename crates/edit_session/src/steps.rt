@@ -1,10 +1,14 @@
 ghost use Rattle.std.specs.Prelude.{◌≡◌, ℕ, List, IfOk, OnOk};
+ghost use Rattle.std.specs.FinMap.{get};
 ghost use Rattle.generation.specs.declared.generated.Generated.{Generated};
 ghost use Rattle.package_lookup.specs.Looked.{over_at};
-ghost use Rattle.request_trace.specs.Tracing.{TakesSteps};
+ghost use Rattle.request_trace.specs.Tracing.{StepsByFresh, TakesSteps};
+ghost use Rattle.kept_trace.specs.Ready.{AreAllRight, is_anew};
+ghost use Rattle.session_spec.specs.SessionStates.{config_with};
 ghost use Rattle.edit_session.specs.SessionTrees.{steps_of};
+ghost use Rattle.edit_session.specs.Trying.{IfLaid};
 ghost use Rattle.edit_session.specs.SessionParts.{parts, result_over};
-ghost use Rattle.edit_session.specs.Steps.{MakesNext, GeneratesNext, IsStep};
+ghost use Rattle.edit_session.specs.Steps.{MakesNext, GeneratesNext, IsStep, TakesFreshOf};
 
 use crate::changes::make_all;
 use crate::entries::Entries;
@@ -13,6 +17,7 @@ use crate::made::Made;
 use crate::session::{Edit, Pending};
 use crate::stop::EditStop;
 use generation::Generated;
+use kept_trace::TraceAnswers;
 use package_lookup::{Known, Over};
 use request_trace::Config;
 use shared_types::{Memory, Steps};
@@ -23,6 +28,7 @@ use tree_model::Folder;
 /// What an edit makes of a session. Its looks are then those of the edit.
 pub(crate) fn next<F: Folder, L: Ledger>(
     alloc: Global,
+    answers: &mut TraceAnswers,
     looks: &mut Looks,
     config: &mut Config,
     edit: &Edit,
@@ -30,14 +36,16 @@ pub(crate) fn next<F: Folder, L: Ledger>(
     steps: &mut Steps<L>,
 ) -> Result<Made, EditStop>
     ensures makes { (generated : Generated) → MakesNext (F.state folder.old)
-        (parts looks.old.known config.old generated) edit.now (result_over looks.new.over result)
-        (F.state folder.new) (parts looks.new.known config.new generated) }
+        (parts looks.old.known config.old generated answers.old) edit.now (result_over looks.new.over result)
+        (F.state folder.new) (parts looks.new.known config.new generated answers.new) }
     ensures config { config.new ≡ config.old }
     ensures steps { TakesSteps result (λ made. steps_of made.generated) steps.old steps.new }
+    ensures fresh { (generated : Generated) → TakesFreshOf (F.state folder.old)
+        (parts looks.old.known config.old generated answers.old) edit.now steps.old steps.new }
 {
     match draft(alloc, looks, config) {
         Err(_) => Err(EditStop::Memory),
-        Ok(entries) => make(alloc, looks, config, entries, edit, folder, steps),
+        Ok(entries) => make(alloc, answers, looks, config, entries, edit, folder, steps),
     }
 }
 
@@ -55,6 +63,7 @@ fn draft(alloc: Global, looks: &mut Looks, config: &Config) -> Result<Entries, M
 // What an edit makes of a session, whose looks and entries these are.
 fn make<F: Folder, L: Ledger>(
     alloc: Global,
+    answers: &mut TraceAnswers,
     looks: &mut Looks,
     config: &mut Config,
     entries: Entries,
@@ -65,21 +74,24 @@ fn make<F: Folder, L: Ledger>(
     requires over { (path : List ℕ) → over_at looks.old.over path ≡ over_at looks.old.known.laid path }
     requires entries { entries ≡ config.old.entries }
     ensures makes { (generated : Generated) → MakesNext (F.state folder.old)
-        (parts looks.old.known config.old generated) edit.now (result_over looks.new.over result)
-        (F.state folder.new) (parts looks.new.known config.new generated) }
+        (parts looks.old.known config.old generated answers.old) edit.now (result_over looks.new.over result)
+        (F.state folder.new) (parts looks.new.known config.new generated answers.new) }
     ensures config { config.new ≡ config.old }
     ensures steps { TakesSteps result (λ made. steps_of made.generated) steps.old steps.new }
+    ensures fresh { (generated : Generated) → TakesFreshOf (F.state folder.old)
+        (parts looks.old.known config.old generated answers.old) edit.now steps.old steps.new }
 {
     let mut entries = entries;
     match make_all(alloc, looks, &mut entries, folder, edit.as_slice()) {
         Err(stop) => Err(EditStop::of_change(stop)),
-        Ok(()) => generate(alloc, looks, config, entries, folder, steps),
+        Ok(()) => generate(alloc, answers, looks, config, entries, folder, steps),
     }
 }
 
 // The same, where the changes are made.
 fn generate<F: Folder, L: Ledger>(
     alloc: Global,
+    answers: &mut TraceAnswers,
     looks: &mut Looks,
     config: &mut Config,
     entries: Entries,
@@ -87,29 +99,35 @@ fn generate<F: Folder, L: Ledger>(
     steps: &mut Steps<L>,
 ) -> Result<Made, EditStop>
     ensures generates { (generated : Generated) → GeneratesNext (F.state folder.old)
-        (parts looks.old.known config.old generated) looks.old.over entries (result_over looks.new.over result)
-        (F.state folder.new) (parts looks.new.known config.new generated) }
+        (parts looks.old.known config.old generated answers.old) looks.old.over entries
+        (result_over looks.new.over result) (F.state folder.new)
+        (parts looks.new.known config.new generated answers.new) }
     ensures config { config.new ≡ config.old }
     ensures steps { TakesSteps result (λ made. steps_of made.generated) steps.old steps.new }
+    ensures fresh { IfLaid (AreAllRight answers.old.kept) (F.state folder.old) looks.old.known looks.old.over
+        (λ seen. StepsByFresh (is_anew answers.old.kept) (get seen) (config_with config.old entries)
+        steps.old steps.new) }
 {
     let mut entries = entries;
-    let found = looks.try_map(alloc, config, &mut entries, folder, steps);
+    let found = looks.try_map(alloc, answers, config, &mut entries, folder, steps);
     match found {
         Err(stop) => Err(EditStop::of_map(stop)),
         Ok(generated) => Ok(Made { entries, generated }),
     }
 }
 
-/// What is pending takes the place of what was, and the looks that were laid that of the spare ones.
+/// What is pending takes the place of what was, the looks that were laid that of the spare ones, and the answers of the
+/// trace behind what is pending that of those that were kept.
 pub(crate) fn step(
     known: &mut Known,
     config: &mut Config,
     generated: &mut Generated,
+    answers: &mut TraceAnswers,
     spare: &mut Over,
     pending: Pending,
 )
-    ensures step { IsStep (parts known.old config.old generated.old) pending
-        (parts known.new config.new generated.new) }
+    ensures step { IsStep (parts known.old config.old generated.old answers.old) pending
+        (parts known.new config.new generated.new answers.new) }
     ensures spare { spare.new ≡ known.old.laid }
 {
     let Pending {
@@ -122,5 +140,6 @@ pub(crate) fn step(
     known.lay(&mut over);
     entries.exchange(config);
     *generated = map;
+    answers.exchange();
     *spare = over;
 }

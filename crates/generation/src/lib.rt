@@ -13,7 +13,7 @@ mod tracing;
 
 pub use digester::{ComputedDigests, Digester, KeptDigests};
 pub use generated::{Generated, generate, generate_over, generate_traced, map_of};
-pub use stop::Stop;
+pub use stop::{Stop, stop_of};
 pub use tracing::traced;
 
 /// Where the trace of a folder stops, generation stops so; and where there is a trace, the map of the trace is

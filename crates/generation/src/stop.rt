@@ -18,7 +18,7 @@ pub enum Stop {
 }
 
 /// How a command ends that has no trace.
-pub(crate) fn stop_of(fault: TraceFault) -> Stop
+pub fn stop_of(fault: TraceFault) -> Stop
     ensures { StopsAs fault result }
 {
     match fault {

@@ -1,0 +1,76 @@
+-- How many steps an edit takes.
+--     takes_fresh          those of a trace by the answers of the state
+--     frugal               and of an edit whose changes are made
+--     frugal_nothing       where nothing is traced
+use Rattle.std.proofs.Common.{◌≡◌, ◌≤◌, ◌+◌, ℕ, Bool, true, false, List, Some, Result, Ok, Err, refl, sym, ◌∙◌, subst, arith}
+use Rattle.std.specs.Prelude.{OnErr, length, filter}
+use Rattle.std.specs.FinMap.{get}
+use Rattle.std.proofs.lemmas.Option.{same_Some}
+use Rattle.asking_spec.specs.Askings.{questions}
+use Rattle.tree_spec.specs.Trees.{Tree}
+use Rattle.trace_spec.specs.Laws.{asked_by_end}
+use Rattle.trace_spec.specs.Modules.{Config}
+use Rattle.trace_spec.specs.Questions.{Question, always}
+use Rattle.trace_spec.specs.Traces.{trace}
+use Rattle.request_trace.specs.Tracing.{StepsByFresh}
+use Rattle.kept_trace.specs.Ready.{is_anew}
+use Rattle.kept_trace.specs.Tracing.{FreshIsByTrees}
+use Rattle.kept_trace.specs.declared.kept.Kept.{Kept}
+use Rattle.session_spec.specs.declared.Change.{Change}
+use Rattle.session_spec.specs.declared.EditFault.{EditFault}
+use Rattle.session_spec.specs.Edits.{Draft, edited}
+use Rattle.session_spec.specs.SessionStates.{SessionState, draft_of, config_with}
+use Rattle.edit_session.specs.Frugality.{TakesFresh, IsFrugal}
+use Rattle.edit_session.specs.KeptAnswers.{AreAnswersOf}
+
+pub takes_fresh : FreshIsByTrees → (kept : Kept) (tree : Tree) (config : Config) → AreAnswersOf kept tree config
+    → (later : Tree) (other : Config) (from to : ℕ) → StepsByFresh (is_anew kept) (get later) other from to
+    → TakesFresh tree config later other from to
+takes_fresh law kept tree config answers later other from to taken = record {
+  is_fresh = is_anew kept (get later);
+  fresh = law kept (get tree) (get later) (questions (always (get tree)) (trace config)) answers.right answers.complete;
+  steps = λ asked are.
+      subst (λ questions. to ≤ from + length (filter (is_anew kept (get later)) questions))
+      (same_Some taken.asked asked (sym taken.are ∙ are)) taken.steps;
+}
+
+takes_none : (tree : Tree) (config : Config) (later : Tree) (other : Config) (from to : ℕ) → to ≡ from
+    → TakesFresh tree config later other from to
+takes_none tree config later other from to same = record {
+  is_fresh = λ question. false;
+  fresh = λ question is. absurd (cc);
+  steps = λ asked are. omega (arith, same);
+}
+
+none_refused : {A : Type 0} (result : Result A EditFault) (from to : ℕ) → to ≡ from → OnErr result (to ≡ from)
+none_refused (Ok value) from to same = tt
+none_refused (Err fault) from to same = same
+
+pub frugal_nothing : (state : SessionState) (edit : List Change) (from to : ℕ) → to ≡ from → IsFrugal state edit from to
+frugal_nothing state edit from to same = record {
+  left = λ draft made.
+      takes_none state.tree state.config draft.tree (config_with state.config draft.entries) from to same;
+  refused = none_refused (edited (draft_of state) edit) from to same;
+}
+
+same_draft : (one other : Draft) (result : Result Draft EditFault) → result ≡ Ok one → result ≡ Ok other → one ≡ other
+same_draft one other result first last =
+    (let both : Ok one ≡ Ok other = sym first ∙ last in let p : one ≡ other = cc in p)
+
+unrefused : (A : Type 0) (draft : Draft) (result : Result Draft EditFault) → result ≡ Ok draft → OnErr result A
+unrefused A draft (Ok other) made = tt
+unrefused A draft (Err fault) made = absurd (cc)
+
+pub frugal : FreshIsByTrees → (kept : Kept) (state : SessionState) → AreAnswersOf kept state.tree state.config
+    → (edit : List Change) (draft : Draft) → edited (draft_of state) edit ≡ Ok draft → (from to : ℕ)
+    → StepsByFresh (is_anew kept) (get draft.tree) (config_with state.config draft.entries) from to
+    → IsFrugal state edit from to
+frugal law kept state answers edit draft made from to taken = record {
+  left = λ other is.
+      subst
+      (λ (d : Draft). TakesFresh state.tree state.config d.tree (config_with state.config d.entries) from to)
+      (same_draft draft other (edited (draft_of state) edit) made is)
+      (takes_fresh law kept state.tree state.config answers draft.tree (config_with state.config draft.entries) from to
+      taken);
+  refused = unrefused (to ≡ from) draft (edited (draft_of state) edit) made;
+}

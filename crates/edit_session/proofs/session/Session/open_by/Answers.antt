@@ -1,0 +1,25 @@
+use Rattle.std.proofs.Common.{refl, ◌∙◌, sym, subst}
+use Rattle.kept_trace.specs.declared.kept.Kept.{Kept}
+use Rattle.generation.specs.Generating.{IfSeen}
+use Rattle.edit_session.specs.KeptAnswers.{AreAnswersOf}
+use Rattle.edit_session.specs.Mapping.{IsKeptFor}
+use Rattle.edit_session.proofs.MapsAgain.{right_empty}
+use Rattle.edit_session.proofs.SessionCalls.{opened, not_opened, opened_answers}
+use Rattle.edit_session.proofs.session.Session.open_by.Goals as goal
+
+pub returns-in-Err-clause-opens : goal.returns-in-Err-clause-opens
+returns-in-Err-clause-opens g c =
+    not_opened c.args.config (g.F.Folder.state c.args.folder.now) (g.F.Folder.state c.map_again.new.folder) c.new-known.result
+    c.map_again.new.known c.new-known.ensures.kept c.new-known.ensures.laid (g.met.F.Folder.told c.args.folder.now) c.in-Err.stop
+    (rw c.in-Err.is at (c.map_again.ensures.generates.is (right_empty c.args.config.conditions c.args.answers.kept c.requires)))
+
+pub returns-in-Ok-clause-opens : goal.returns-in-Ok-clause-opens
+returns-in-Ok-clause-opens g c =
+    let right = right_empty c.args.config.conditions c.args.answers.kept c.requires in
+    opened c.args.config (g.F.Folder.state c.args.folder.now) (g.F.Folder.state c.map_again.new.folder) c.new-known.result
+    c.map_again.new.known c.new-known.ensures.kept c.new-known.ensures.laid (g.met.F.Folder.told c.args.folder.now) _ c.in-Ok.generated
+    refl refl refl
+    (opened_answers (g.F.Folder.state c.args.folder.now) c.new-known.result c.args.config c.args.answers.kept
+    c.map_again.new.answers.next c.exchange.new.self.kept c.exchange.ensures.kept c.requires.names
+    ((rw c.in-Ok.is at c.map_again.ensures.keeps) right))
+    refl c.in-Ok.ensures.page (rw c.in-Ok.is at (c.map_again.ensures.generates.is right))
