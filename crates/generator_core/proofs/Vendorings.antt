@@ -2,7 +2,7 @@
 use Rattle.std.proofs.Common.{◌≡◌, ◌≢◌, ◌≤◌, ◌<◌, ◌⊎◌, ◌+◌, ◌++◌, [], ◌∷◌, ℕ, List, length, map, take, Option, Some, None, Result, Ok, Err, IfSome, refl, sym, ap, ◌∙◌, subst, inl, inr, arith}
 use Rattle.std.specs.FinMap.{get}
 use Rattle.std.specs.Prelude.{codes, option_map, Contains, true, false}
-use Rattle.tree_spec.proofs.ToldStates.{if_some, if_two, looks_as, looks_then}
+use Rattle.tree_spec.proofs.ToldStates.{if_all, if_some, if_two, looks_as, looks_then}
 use Rattle.tree_spec.specs.Counts.{Rose}
 use Rattle.tree_spec.specs.LookAskings.{Sights, footprint as paths_of}
 use Rattle.tree_spec.specs.declared.Entry.TheVariants.{Directory, Stored}
