@@ -31,9 +31,9 @@ pub struct Counts {
     pub mappings: usize,
 }
 
-/// A map that is kept current: the config, what was seen of the folder, what edits laid over it, the map that is generated
-/// for these, and the answers of its trace, by which the next one is made; and beside them what an edit that is prepared
-/// would make of them.
+/// A map that is kept current: the config, what was seen of the folder, what edits laid over it, the map that is
+/// generated for these, and the answers of its trace, by which the next one is made; and beside them what an edit that
+/// is prepared would make of them.
 #[derive(Drop)]
 pub struct Session {
     known: Known,
@@ -126,8 +126,8 @@ impl Session {
 
     /// Tries the changes of an edit one after another, and generates for what they leave, unless there are none. What
     /// comes of it is pending then; it takes the place of what was. What is refused leaves the session as it was, with
-    /// nothing pending. A step is taken at most for each question of the trace that wasn't asked for the session's own, or
-    /// at whose footprint something changed.
+    /// nothing pending. A step is taken at most for each question of the trace that wasn't asked for the session's own,
+    /// or at whose footprint something changed.
     pub fn prepare<F: Folder, L: Ledger>(
         &mut self,
         alloc: Global,
