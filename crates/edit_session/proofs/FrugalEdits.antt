@@ -2,15 +2,14 @@
 --     takes_fresh          those of a trace by the answers of the state
 --     frugal               and of an edit whose changes are made
 --     frugal_nothing       where nothing is traced
-use Rattle.std.proofs.Common.{◌≡◌, ◌≤◌, ◌+◌, ℕ, Bool, true, false, List, Some, Result, Ok, Err, refl, sym, ◌∙◌, subst, arith}
+use Rattle.std.proofs.Common.{◌≡◌, ◌≤◌, ◌+◌, ℕ, false, List, Result, Ok, Err, sym, ◌∙◌, subst, arith}
 use Rattle.std.specs.Prelude.{OnErr, length, filter}
 use Rattle.std.specs.FinMap.{get}
 use Rattle.std.proofs.lemmas.Option.{same_Some}
 use Rattle.asking_spec.specs.Askings.{questions}
 use Rattle.tree_spec.specs.Trees.{Tree}
-use Rattle.trace_spec.specs.Laws.{asked_by_end}
 use Rattle.trace_spec.specs.Modules.{Config}
-use Rattle.trace_spec.specs.Questions.{Question, always}
+use Rattle.trace_spec.specs.Questions.{always}
 use Rattle.trace_spec.specs.Traces.{trace}
 use Rattle.request_trace.specs.Tracing.{StepsByFresh}
 use Rattle.kept_trace.specs.Ready.{is_anew}

@@ -1,8 +1,4 @@
-use Rattle.std.proofs.Common.{refl, ◌∙◌, sym, subst}
-use Rattle.kept_trace.specs.declared.kept.Kept.{Kept}
-use Rattle.generation.specs.Generating.{IfSeen}
-use Rattle.edit_session.specs.KeptAnswers.{AreAnswersOf}
-use Rattle.edit_session.specs.Mapping.{IsKeptFor}
+use Rattle.std.proofs.Common.{refl}
 use Rattle.edit_session.proofs.MapsAgain.{right_empty}
 use Rattle.edit_session.proofs.SessionCalls.{opened, not_opened, opened_answers}
 use Rattle.edit_session.proofs.session.Session.open_by.Goals as goal
