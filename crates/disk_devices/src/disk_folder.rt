@@ -41,6 +41,7 @@ impl<'a, R> DiskFolder<'a, R> {
                 alloc,
                 root,
                 ways: HashMap::new(alloc),
+                gap: None,
                 writes: false,
             },
             look_faults: 0,
@@ -125,6 +126,9 @@ struct Disk<'a, R> {
     root: &'a str,
     /// Names below the root, and whether a folder stands there, and above it folders alone.
     ways: HashMap<String, bool>,
+    /// The last of these names at which no folder was found by a look: none stands below it either, so looks at many
+    /// paths below it, or at each folder above a path, don't go through all names between.
+    gap: Option<String>,
     /// Whether that was found by writes alone, with no look behind the first of them.
     writes: bool,
 }
@@ -157,6 +161,7 @@ impl<'a, R: Files> Disk<'a, R> {
             Standing::Absent => Ok(Look::Absent),
             Standing::Folder => {
                 self.keep(name, true)?;
+                self.gap = None;
                 Ok(Look::Folder)
             }
             Standing::File(size) => {
@@ -178,6 +183,7 @@ impl<'a, R: Files> Disk<'a, R> {
         if !self.writes {
             // The first write behind a look judges each folder on its way anew.
             self.ways.clear();
+            self.gap = None;
             self.writes = true;
         }
         self.make_folder(above)?;
@@ -251,6 +257,9 @@ impl<'a, R: Files> Disk<'a, R> {
         if name.len() <= self.root.len() {
             return Ok(true);
         }
+        if self.is_beyond(name) {
+            return Ok(false);
+        }
         if let Some(is_reached) = self.ways.get(name) {
             return Ok(*is_reached);
         }
@@ -260,7 +269,21 @@ impl<'a, R: Files> Disk<'a, R> {
         }
         let is_reached = matches!(self.standing(name)?, Standing::Folder);
         self.keep(String::from_str(self.alloc, name)?, is_reached)?;
+        if !is_reached {
+            self.gap = Some(String::from_str(self.alloc, name)?);
+        }
         Ok(is_reached)
+    }
+
+    /// Whether a name is that of the last gap, or below it.
+    fn is_beyond(&self, name: &str) -> bool {
+        match &self.gap {
+            None => false,
+            Some(gap) => match name.strip_prefix(gap.as_str()) {
+                None => false,
+                Some(rest) => rest.is_empty() || rest.starts_with('/'),
+            },
+        }
     }
 
     /// A new file in a folder, with its name.
@@ -343,7 +366,7 @@ mod tests {
         Ok(format!(in alloc; "{trouble}")?)
     }
 
-    static LOOKS: [(&str, u64, Seen); 12] = [
+    static LOOKS: [(&str, u64, Seen); 16] = [
         ("/", 9, Seen::Folder),
         ("/folder", 0, Seen::Folder),
         ("/folder/five", 5, Seen::File(5)),
@@ -351,6 +374,10 @@ mod tests {
         ("/folder/empty", 0, Seen::File(0)),
         ("/folder/none", 9, Seen::Absent),
         ("/none/none", 9, Seen::Absent),
+        ("/none/none/none", 9, Seen::Absent),
+        ("/none", 9, Seen::Absent),
+        ("/fold/none", 9, Seen::Absent),
+        ("/folder/five", 5, Seen::File(5)),
         ("/folder/five/below", 9, Seen::Absent),
         ("/linked_file", 9, Seen::Failed),
         ("/linked_folder", 9, Seen::Failed),
@@ -409,6 +436,27 @@ mod tests {
             "a special file"
         );
         assert!(rt; shown(alloc, &devices)?.as_str() == "/dev/null: special file");
+        fs::remove_dir_all(&rt, root.as_str())?;
+        Ok(())
+    }
+
+    #[test]
+    fn a_folder_that_comes_is_found(rt: HostRuntime) -> Result<(), Fail> {
+        let alloc = rt.alloc();
+        let root = made(&rt, "comes")?;
+        let mut folder = DiskFolder::new(rt, alloc, root.as_str());
+        let above = Path::parse(alloc, "/late")?;
+        let below = Path::parse(alloc, "/late/deep/file")?;
+        let before = answered(folder.look(alloc, &below, 9));
+        fs::create_dir_all(&rt, format!(in alloc; "{root}/late/deep")?.as_str())?;
+        fs::write(
+            &rt,
+            format!(in alloc; "{root}/late/deep/file")?.as_str(),
+            "1",
+        )?;
+        let between = answered(folder.look(alloc, &above, 9));
+        let after = answered(folder.look(alloc, &below, 9));
+        assert!(rt; (before, between, after) == (Seen::Absent, Seen::Folder, Seen::File(1)));
         fs::remove_dir_all(&rt, root.as_str())?;
         Ok(())
     }
