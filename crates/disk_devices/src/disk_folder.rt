@@ -539,15 +539,21 @@ mod tests {
         Ok(())
     }
 
-    /// A name of 256 bytes, one more than a disk takes.
-    const LONG: &str =
-        "/alone/xxxxxxxxxxxxxxxxxxxxxxxxxxxxxxxxxxxxxxxxxxxxxxxxxxxxxxxxxxxxxxxxxxxxxxxxxxxxxxxxxxxxxxxxxxxxxxxxxxxxxxxxxxxxxxxxxxxxxxxxxxxxxxxxxxxxxxxxxxxxxxxxxxxxxxxxxxxxxxxxxxxxxxxxxxxxxxxxxxxxxxxxxxxxxxxxxxxxxxxxxxxxxxxxxxxxxxxxxxxxxxxxxxxxxxxxxxxxxxxxxxxxxxxxxxxxxxxx";
+    /// A path whose last name has 256 bytes, one more than a disk takes.
+    fn long_path(alloc: Global) -> Result<String, Fail> {
+        let mut path = String::from_str(alloc, "/alone/")?;
+        for _ in 0..256 {
+            path.push('x')?;
+        }
+        Ok(path)
+    }
 
     #[test]
     fn a_name_too_long_is_absent(rt: HostRuntime) -> Result<(), Fail> {
         let root = made(&rt, "long")?;
         let mut folder = DiskFolder::new(rt, rt.alloc(), root.as_str());
-        let found = rewritten(rt.alloc(), &mut folder, LONG)?;
+        let long = long_path(rt.alloc())?;
+        let found = rewritten(rt.alloc(), &mut folder, long.as_str())?;
         assert!(rt; found == (Seen::Absent, false, Seen::Absent));
         // What the write made beside its goal is gone, so the folder can be taken away as an empty one.
         fs::remove_dir(&rt, format!(in rt.alloc(); "{root}/alone")?.as_str())?;
