@@ -126,8 +126,8 @@ struct Disk<'a, R> {
     root: &'a str,
     /// Names below the root, and whether a folder stands there, and above it folders alone.
     ways: HashMap<String, bool>,
-    /// The last of these names at which no folder was found by a look: none stands below it either, so looks at many
-    /// paths below it, or at each folder above a path, don't go through all names between.
+    /// The path of the last of these names at which no folder was found by a look: nothing stands below it, so looks at
+    /// many paths below it, as at each folder above a path, don't go through all names between.
     gap: Option<String>,
     /// Whether that was found by writes alone, with no look behind the first of them.
     writes: bool,
@@ -153,6 +153,9 @@ impl<'a, R: Files> Disk<'a, R> {
     /// What stands at a path, where a file may have at most `limit` bytes.
     fn look(&mut self, alloc: Global, path: &str, limit: u64) -> Result<Look, Obstacle> {
         self.writes = false;
+        if self.is_beyond(path) {
+            return Ok(Look::Absent);
+        }
         let name = self.name_of(alloc, path)?;
         if !self.reaches(above(name.as_str()))? {
             return Ok(Look::Absent);
@@ -257,9 +260,6 @@ impl<'a, R: Files> Disk<'a, R> {
         if name.len() <= self.root.len() {
             return Ok(true);
         }
-        if self.is_beyond(name) {
-            return Ok(false);
-        }
         if let Some(is_reached) = self.ways.get(name) {
             return Ok(*is_reached);
         }
@@ -270,18 +270,26 @@ impl<'a, R: Files> Disk<'a, R> {
         let is_reached = matches!(self.standing(name)?, Standing::Folder);
         self.keep(String::from_str(self.alloc, name)?, is_reached)?;
         if !is_reached {
-            self.gap = Some(String::from_str(self.alloc, name)?);
+            self.gap = self.path_of(name)?;
         }
         Ok(is_reached)
     }
 
-    /// Whether a name is that of the last gap, or below it.
-    fn is_beyond(&self, name: &str) -> bool {
+    /// The path of what stands under a name.
+    fn path_of(&self, name: &str) -> Result<Option<String>, AllocError> {
+        match name.strip_prefix(self.root) {
+            None => Ok(None),
+            Some(path) => Ok(Some(String::from_str(self.alloc, path)?)),
+        }
+    }
+
+    /// Whether a path is below the last gap.
+    fn is_beyond(&self, path: &str) -> bool {
         match &self.gap {
             None => false,
-            Some(gap) => match name.strip_prefix(gap.as_str()) {
+            Some(gap) => match path.strip_prefix(gap.as_str()) {
                 None => false,
-                Some(rest) => rest.is_empty() || rest.starts_with('/'),
+                Some(rest) => rest.starts_with('/'),
             },
         }
     }

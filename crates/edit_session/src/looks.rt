@@ -1,16 +1,17 @@
-ghost use Rattle.std.specs.Prelude.{◌≡◌, List, ℕ, OnOk};
+ghost use Rattle.std.specs.Prelude.{◌≡◌, List, ℕ, Ok, OnOk};
 ghost use Rattle.package_lookup.specs.Looked.{over_at, Puts};
 ghost use Rattle.request_trace.specs.Tracing.{TakesSteps};
 ghost use Rattle.edit_session.specs.SessionTrees.{steps_of};
 ghost use Rattle.edit_session.specs.Agreement.{AgreeBut};
 ghost use Rattle.edit_session.specs.Standings.{Stands};
+ghost use Rattle.edit_session.specs.declared.standing.Standing.TheVariants.{Nothing};
 ghost use Rattle.edit_session.specs.Trying.{TriesMap};
 
 use crate::entries::Entries;
 use crate::standing::{Standing, standing_of};
 use crate::trying::try_map;
 use generation::{Generated, Stop};
-use package_lookup::{Known, Over};
+use package_lookup::{Known, Over, Trail};
 use request_trace::Config;
 use shared_types::{Memory, Steps};
 use std::alloc::Global;
@@ -45,17 +46,21 @@ impl Looks {
         Ok(())
     }
 
-    /// What stands at a path, where the looks of the edit are laid over what is known.
+    /// What stands at a path, where the looks of the edit are laid over what is known. On the trail are looks at which no
+    /// file stood.
     pub(crate) fn standing_of<F: Folder>(
         &mut self,
         alloc: Global,
         folder: &mut F,
         path: &Path,
+        trail: &mut Trail,
     ) -> Result<Standing, LookFault>
-        ensures { Stands (F.state folder.old) self.old.known self.old.over path.now result
+        requires { trail.old.size ≡ 0 }
+        ensures stands { Stands (F.state folder.old) self.old.known self.old.over path.now result
             (F.state folder.new) self.new.known self.new.over }
+        ensures trail { result ≡ Ok Nothing → trail.new.size ≡ 0 }
     {
-        standing_of(alloc, &mut self.known, &mut self.over, folder, path)
+        standing_of(alloc, &mut self.known, &mut self.over, folder, path, trail)
     }
 
     /// Puts a look of the edit at its path.
