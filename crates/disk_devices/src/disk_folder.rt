@@ -257,15 +257,32 @@ impl<'a, R: Files> Disk<'a, R> {
 
     /// Whether a folder stands under a name, and above it, from the root folder on, folders alone.
     fn reaches(&mut self, name: &str) -> Result<bool, Obstacle> {
-        if name.len() <= self.root.len() {
-            return Ok(true);
-        }
         if let Some(is_reached) = self.ways.get(name) {
             return Ok(*is_reached);
         }
-        // Nothing is kept of a name below one that isn't reached, so a path leaves at most one such name.
-        if !self.reaches(above(name))? {
-            return Ok(false);
+        let Some(path) = name.strip_prefix(self.root) else {
+            return Ok(true);
+        };
+        // From the root on, so that where a folder is missing nothing is done for those below it.
+        let mut front = String::with_capacity(self.alloc, name.len())?;
+        front.push_str(self.root)?;
+        for segment in path.split('/') {
+            if !segment.is_empty() {
+                front.push('/')?;
+                front.push_str(segment)?;
+                if !self.is_way(front.as_str())? {
+                    return Ok(false);
+                }
+            }
+        }
+        Ok(true)
+    }
+
+    /// Whether a folder stands under a name, where above it folders alone do. Nothing is kept of a name below one where
+    /// none does, so a path leaves at most one such name.
+    fn is_way(&mut self, name: &str) -> Result<bool, Obstacle> {
+        if let Some(is_reached) = self.ways.get(name) {
+            return Ok(*is_reached);
         }
         let is_reached = matches!(self.standing(name)?, Standing::Folder);
         self.keep(String::from_str(self.alloc, name)?, is_reached)?;
