@@ -141,6 +141,27 @@ def many_targets(size):
     return filled(size, '{"exports":[', ',"./x.mjs"]}', lambda i: '"x"')
 
 
+def conditions_of_a_pattern(size):
+    return filled(size, '{"exports":{"./*":{', ',"default":"./x.mjs"}}}', lambda i: f'"c{i}":"./y.mjs"')
+
+
+def objects_of_a_pattern(size):
+    """A list of objects that come to nothing, though their conditions hold."""
+    return filled(size, '{"exports":{"./*":[', ',"./x.mjs"]}}', lambda i: '{"default":{"c":"./y"}}')
+
+
+def lists_of_a_pattern(size):
+    return filled(size, '{"exports":{"./*":[', ',"./x.mjs"]}}', lambda i: '["x","x"]')
+
+
+def imports_of_conditions(folder, size):
+    """A module that asks for what its own package imports under many conditions."""
+    put(folder, "app.mjs", requests(size, lambda i: f"#k{i}"))
+    put(folder, "package.json", filled(size, '{"imports":{"#*":{', ',"default":"./x.mjs"}}}', lambda i: f'"c{i}":"./y.mjs"'))
+    put(folder, "x.mjs", "")
+    return Case(LINK, "ok: 2 modules, 4097 requests, 4096 mappings")
+
+
 def many_names(size):
     """Many members of other names."""
     return filled(size, '{', ',"exports":"./x.mjs"}', lambda i: f'"n{i}":0')
@@ -307,6 +328,10 @@ CASES = {
     "together: keys by 4,096 requests": package(many_keys, lambda i: "p/x",
                                                 "ok: 2 modules, 4097 requests, 1 mappings", most=4096,
                                                 files=("x.mjs",)),
+    **{f"together: {shape.__name__.replace('_', ' ')} by 4,096 requests":
+       package(shape, lambda i: f"p/k{i}", "ok: 2 modules, 4097 requests, 4096 mappings", most=4096, files=("x.mjs",))
+       for shape in (conditions_of_a_pattern, objects_of_a_pattern, lists_of_a_pattern)},
+    "together: imports of conditions by 4,096 requests": imports_of_conditions,
     "together: scopes of one key by 64 needs": map_and_modules(64, 1),
     "together: scopes of one key by 4,096 needs": map_and_modules(4096, 1),
 }

@@ -4,3 +4,4 @@ pub mod Sizes
 pub mod ConditionLemmas
 pub mod AskLemmas
 pub mod KeptCalls
+pub mod ReduceLemmas

@@ -140,7 +140,8 @@ fn try_member<B: BareTarget>(
     }
 }
 
-fn is_tried(conditions: &Conditions, key: &str) -> bool
+/// Whether a member with this key is tried.
+pub(crate) fn is_tried(conditions: &Conditions, key: &str) -> bool
     ensures { result ≡ is_tried conditions.now key.now }
 {
     key == "default" || conditions.holds(key)
@@ -176,7 +177,8 @@ fn later(last: Outcome, outcome: Outcome) -> Outcome
     }
 }
 
-fn item_at(items: &Items, index: usize) -> &Value
+/// The item with this number.
+pub(crate) fn item_at(items: &Items, index: usize) -> &Value
     requires { index < length (values_of items.now) }
     ensures { drop index (values_of items.now) ≡ result.now ∷ drop (index + 1) (values_of items.now) }
 {

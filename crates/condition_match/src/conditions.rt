@@ -5,7 +5,7 @@ ghost use Rattle.node_spec.specs.Conditions.{names_in, is_name_byte, IsCondition
 ghost use Rattle.condition_match.specs.Names.{names_left};
 
 use crate::cuts::cut_once;
-use shared_types::{Listed, Text};
+use shared_types::{Listed, Memory, Text};
 use std::alloc::{AllocError, Global};
 use std::marker::Model;
 
@@ -90,12 +90,43 @@ impl Conditions {
         self.names.at(index)
     }
 
+    /// An equal one.
+    pub fn copy(&self, alloc: Global) -> Result<Conditions, Memory>
+        ensures { IfOk result (λ copy. copy ≡ self.now) }
+    {
+        let names = copy_of(alloc, self.names.as_slice())?;
+        Ok(Conditions { names })
+    }
+
+    /// Whether they are these, in the same order.
+    pub fn is_same(&self, other: &Conditions) -> bool
+        ensures { IsTrue result → self.now ≡ other.now }
+    {
+        are_same(&self.names, &other.names)
+    }
+
     /// Whether this name is among them.
     pub(crate) fn holds(&self, name: &str) -> bool
         ensures { result ≡ list_any (bytes_eq name.now) self.now }
     {
         holds(&self.names, name)
     }
+}
+
+fn copy_of(alloc: Global, names: &[Text]) -> Result<Listed<Text>, Memory>
+    ensures { IfOk result (λ copy. copy ≡ names.now) }
+{
+    let mut copy = Listed::new(alloc);
+    for name in names {
+        copy.push(name.copy(alloc)?)?;
+    }
+    Ok(copy)
+}
+
+fn are_same(names: &Listed<Text>, other: &Listed<Text>) -> bool
+    ensures { IsTrue result → names.now ≡ other.now }
+{
+    names.as_slice() == other.as_slice()
 }
 
 fn holds(names: &Listed<Text>, name: &str) -> bool

@@ -8,6 +8,7 @@ mod conditions;
 mod cuts;
 mod index_keys;
 mod laws;
+mod reducing;
 mod segments;
 mod strings;
 
@@ -16,3 +17,4 @@ pub use choice::choose;
 pub use conditions::{Conditions, ConditionsFault};
 pub use laws::calls_keep;
 pub use node_spec::{BareAnswer, Outcome};
+pub use reducing::reduced_target;

@@ -72,8 +72,9 @@ fn replacing<'a>(target: &str, star: Option<&'a str>) -> Option<&'a str>
     }
 }
 
+/// Whether a text begins with another one.
 #[tactic(auto, using(std::proofs::lemmas::Str::Pattern::starts_text))]
-fn begins(text: &str, front: &str) -> bool
+pub(crate) fn begins(text: &str, front: &str) -> bool
     ensures { result ≡ begins text.now front.now }
 {
     text.starts_with(front)
@@ -92,8 +93,9 @@ fn own_outcome(alloc: Global, target: &str, star: Option<&str>) -> Result<Outcom
     Ok(Outcome::Place(place))
 }
 
+/// Whether a target that doesn't begin with `./` may be a bare specifier.
 #[tactic(auto, unfolding(node_spec::specs::PackageTargets::names_package))]
-fn names_package(alloc: Global, target: &str, imports: bool) -> Result<bool, Memory>
+pub(crate) fn names_package(alloc: Global, target: &str, imports: bool) -> Result<bool, Memory>
     ensures { IfOk result (λ names. names ≡ names_package imports target.now) }
 {
     if !imports || begins(target, "../") || begins(target, "/") {

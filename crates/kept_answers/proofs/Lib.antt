@@ -1,6 +1,7 @@
 pub mod KnownLemmas
 mod ReachedAgain
 pub mod Certifying
+pub mod RightAnswers
 pub mod LookingAgain
 pub mod FreshSteps
 pub mod SharedFootprints

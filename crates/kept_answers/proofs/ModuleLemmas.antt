@@ -1,13 +1,12 @@
 -- The sources of modules that are kept.
---     is_kept              what the table says of a module
+--     kept_so              what the table says of a module, under another name of the looks
 --     source_as            the same of a source that is as this one
 --     put_copy             to keep one more, under a copy of its path, leaves the table right
 --     set_copy, unset_copy      and the table by its looks
-use Rattle.std.proofs.Common.{◌≡◌, ℕ, List, Option, Some, Result, Ok, IfSome, subst, sym}
+use Rattle.std.proofs.Common.{◌≡◌, ℕ, List, Some, Result, Ok, subst, sym}
 use Rattle.std.specs.Prelude.{bytes_eq, if◌then◌else◌, OnOk, OnErr}
-use Rattle.tree_spec.proofs.ToldStates.{if_some}
-use Rattle.tree_spec.specs.Trees.{Tree}
 use Rattle.trace_spec.specs.Questions.{module_source}
+use Rattle.kept_spec.specs.Certificates.{LookSeen}
 use Rattle.kept_answers.specs.Entries.{ModuleSeen, source_seen}
 use Rattle.kept_answers.specs.Freshness.{module_looks, put_looks}
 use Rattle.kept_answers.specs.KnownLooks.{IsKept}
@@ -16,11 +15,10 @@ use Rattle.kept_answers.specs.declared.modules.KeptModules.{KeptModules}
 use Rattle.kept_answers.proofs.SeenNow.{looks_set, looks_same}
 use Rattle.kept_answers.proofs.TableLemmas.{put_right, one_path}
 
-pub is_kept : (told : Option Tree) (path : List ℕ) (kept : ModuleSeen) → IfSome told (λ tree. IsModuleOf path kept)
-    → IfSome told (λ tree. IsKept (module_source path) (Ok (source_seen kept)) kept.looks)
-is_kept told path kept right =
-    if_some {P = λ tree. IsModuleOf path kept}
-    {Q = λ tree. IsKept (module_source path) (Ok (source_seen kept)) kept.looks} told (λ tree of. of.is) right
+pub kept_so : (path : List ℕ) (kept : ModuleSeen) (shown : List LookSeen) → shown ≡ kept.looks → IsModuleOf path kept
+    → IsKept (module_source path) (Ok (source_seen kept)) shown
+kept_so path kept shown same of =
+    subst (IsKept (module_source path) (Ok (source_seen kept))) (sym same) of.is
 
 put_module : {E : Type 0} (path : List ℕ) (kept : ModuleSeen) (old new : KeptModules) (result : Result (Unit {0}) E)
     → OnOk result ((other : List ℕ) → modules_at new other

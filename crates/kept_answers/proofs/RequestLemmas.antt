@@ -1,12 +1,10 @@
 -- The modules to which requests lead, as they are kept.
---     is_kept              what the table says of a request
+--     kept_so              what the table says of a request
 --     put_request          to keep one more leaves the table right
 --     copied               a copy is as right
 --     right_as, node_as, kept_as      the same under other names
-use Rattle.std.proofs.Common.{◌≡◌, ℕ, List, Option, Some, Result, Ok, IfSome, subst, sym, ap, ◌∙◌}
+use Rattle.std.proofs.Common.{◌≡◌, ℕ, List, Some, Result, Ok, refl, subst, sym, ap, ◌∙◌}
 use Rattle.std.specs.Prelude.{if◌then◌else◌, OnOk, OnErr}
-use Rattle.tree_spec.proofs.ToldStates.{if_some}
-use Rattle.tree_spec.specs.Trees.{Tree}
 use Rattle.node_resolve.specs.Places.{module_of}
 use Rattle.node_resolve.specs.declared.found.Found.{Found}
 use Rattle.node_spec.specs.EsmResolve.{node}
@@ -55,23 +53,19 @@ same_node names conditions parent specifier request same is =
     (λ i. node (same i) (is i).parent (is i).specifier)
 
 -- what the table says of a request
-pub is_kept : (told : Option Tree) (names conditions : List (List ℕ)) (parent specifier : List ℕ) (request : Request)
-    (kept : KeptRequest) → names ≡ conditions → request ≡ record { parent = parent; specifier = specifier }
-    → IfSome told (λ tree. IsRequestOf names request kept)
-    → IfSome told (λ tree. IsKept (node conditions parent specifier) (Ok (module_of kept.found.value)) kept.looks.value)
-is_kept told names conditions parent specifier request kept same is right =
-    if_some {P = λ tree. IsRequestOf names request kept}
-    {Q = λ tree. IsKept (node conditions parent specifier) (Ok (module_of kept.found.value)) kept.looks.value} told
-    (λ tree of. subst (λ asking. IsKept asking (Ok (module_of kept.found.value)) kept.looks.value)
-    (same_node names conditions parent specifier request same is) of.is) right
+pub kept_so : (conditions : List (List ℕ)) (parent specifier : List ℕ) (request : Request) (kept : KeptRequest)
+    (shown : List LookSeen) → shown ≡ kept.looks.value → request ≡ record { parent = parent; specifier = specifier }
+    → IsRequestOf conditions request kept
+    → IsKept (node conditions parent specifier) (Ok (module_of kept.found.value)) shown
+kept_so conditions parent specifier request kept shown same is of =
+    subst (λ asking. IsKept asking (Ok (module_of kept.found.value)) shown)
+    (same_node conditions conditions parent specifier request refl is)
+    (subst (IsKept (node conditions request.parent request.specifier) (Ok (module_of kept.found.value))) (sym same) of.is)
 
-pub right_as : (told : Option Tree) (conditions : List (List ℕ)) (request : Request) (kept : KeptRequest)
-    (table : KeptRequests) → table.names ≡ conditions
-    → (AreRequests table → IsRequestOf table.names request kept) → IfSome told (λ tree. AreRequests table)
-    → IfSome told (λ tree. IsRequestOf conditions request kept)
-right_as told conditions request kept table same is right =
-    if_some {P = λ tree. AreRequests table} {Q = λ tree. IsRequestOf conditions request kept} told
-    (λ tree are. subst (λ cs. IsRequestOf cs request kept) same (is are)) right
+pub right_as : (conditions : List (List ℕ)) (request : Request) (kept : KeptRequest) (table : KeptRequests)
+    → table.names ≡ conditions → (AreRequests table → IsRequestOf table.names request kept) → AreRequests table
+    → IsRequestOf conditions request kept
+right_as conditions request kept table same is right = subst (λ cs. IsRequestOf cs request kept) same (is right)
 
 pub kept_as : (names conditions : List (List ℕ)) (parent specifier : List ℕ) (request : Request)
     (value : Result Module Refusal) (looks : List LookSeen) → names ≡ conditions

@@ -4,3 +4,4 @@ pub mod Tables
 pub mod Freshness
 pub mod Footprints
 pub mod Puts
+pub mod RightAnswers

@@ -97,6 +97,13 @@ impl KeptModules {
         }
     }
 
+    /// Nothing is kept any more.
+    pub fn clear(&mut self)
+        ensures { (path : List ℕ) → modules_at self.new path ≡ None }
+    {
+        self.entries.clear();
+    }
+
     /// What is kept of a module.
     pub fn get(&self, path: &Path) -> Option<&KeptModule>
         ensures get { option_copied result ≡ modules_at self.now path.now }

@@ -55,6 +55,14 @@ impl KeptRequests {
         })
     }
 
+    /// Nothing is kept any more.
+    pub fn clear(&mut self)
+        ensures none { (request : Request) → requests_at self.new request ≡ None }
+        ensures names { self.new.names ≡ self.old.names }
+    {
+        self.entries.clear();
+    }
+
     /// Whether these are the conditions.
     pub fn is_under(&self, conditions: &Conditions) -> bool
         ensures same { result ≡ pointwise bytes_eq self.now.names conditions.now }

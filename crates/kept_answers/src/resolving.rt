@@ -13,6 +13,7 @@ ghost use Rattle.kept_answers.specs.Footprints.{HasFootprint};
 ghost use Rattle.kept_answers.specs.Freshness.{put_looks, request_looks, IsSeenNow, StaysSeen, TakesStepIfFresh};
 ghost use Rattle.kept_answers.specs.KnownLooks.{done, AreLooksAt, IsKept};
 ghost use Rattle.kept_answers.specs.Puts.{PutsLooks};
+ghost use Rattle.kept_answers.specs.RightAnswers.{AnsweredIf};
 ghost use Rattle.kept_answers.specs.Tables.{IsRequestOf, AreRequests};
 
 use crate::key::RequestKey;
@@ -47,11 +48,10 @@ impl KeptRequests {
     ) -> Result<Rc<Found>, NodeFault>
         requires names { self.now.names ≡ request.now.conditions.now }
         requires next { next.old.names ≡ request.now.conditions.now }
-        requires right { IfSome (F.state lookup.old.folder.now).holds (λ tree. AreRequests self.now) }
-        ensures answered { Answered (begun_of F.state lookup.old)
+        ensures answered { AnsweredIf (AreRequests self.now) (begun_of F.state lookup.old)
             (spec.node request.now.conditions.now request.now.parent.now request.now.specifier.now)
             (responded (λ found. module_of found.value) result) (state_of F.state lookup.new) }
-        ensures footprint { HasFootprint (F.state lookup.old.folder.now) lookup.old.known.now
+        ensures footprint { AreRequests self.now → HasFootprint (F.state lookup.old.folder.now) lookup.old.known.now
             (spec.node request.now.conditions.now request.now.parent.now request.now.specifier.now) result }
         ensures cost { steps.new ≤ steps.old + 1 }
         ensures fresh { TakesStepIfFresh (F.state lookup.old.folder.now) lookup.old.known.now (request_looks self.now
@@ -62,7 +62,7 @@ impl KeptRequests {
             (request_looks next.old other) (request_looks next.new other) }
         ensures names { next.new.names ≡ next.old.names }
         ensures right { IfSome (F.state lookup.old.folder.now).holds
-            (λ tree. AreRequests next.old → AreRequests next.new) }
+            (λ tree. AreRequests self.now → AreRequests next.old → AreRequests next.new) }
         ensures same { IsSameLookup lookup.old lookup.new }
     {
         match key_of(lookup.alloc, request.parent, request.specifier) {
@@ -97,12 +97,11 @@ fn request_again<F: Folder, L: Ledger>(
 ) -> Result<Rc<Found>, NodeFault>
     requires key { key ≡ record { parent = request.now.parent.now; specifier = request.now.specifier.now } }
     requires next { next.old.names ≡ request.now.conditions.now }
-    requires right { IfSome (F.state lookup.old.folder.now).holds
-        (λ tree. IsRequestOf request.now.conditions.now key found.now) }
-    ensures answered { Answered (begun_of F.state lookup.old)
+    ensures answered { AnsweredIf (IsRequestOf request.now.conditions.now key found.now) (begun_of F.state lookup.old)
         (spec.node request.now.conditions.now request.now.parent.now request.now.specifier.now)
         (responded (λ found. module_of found.value) result) (state_of F.state lookup.new) }
-    ensures footprint { HasFootprint (F.state lookup.old.folder.now) lookup.old.known.now
+    ensures footprint { IsRequestOf request.now.conditions.now key found.now
+        → HasFootprint (F.state lookup.old.folder.now) lookup.old.known.now
         (spec.node request.now.conditions.now request.now.parent.now request.now.specifier.now) result }
     ensures cost { steps.new ≤ steps.old + 1 }
     ensures fresh { TakesStepIfFresh (F.state lookup.old.folder.now) lookup.old.known.now
@@ -111,7 +110,8 @@ fn request_again<F: Folder, L: Ledger>(
     ensures still { (other : Request) → StaysSeen (state_of F.state lookup.old)
         (request_looks next.old other) (request_looks next.new other) }
     ensures names { next.new.names ≡ next.old.names }
-    ensures right { IfSome (F.state lookup.old.folder.now).holds (λ tree. AreRequests next.old → AreRequests next.new) }
+    ensures right { IfSome (F.state lookup.old.folder.now).holds (λ tree.
+        IsRequestOf request.now.conditions.now key found.now → AreRequests next.old → AreRequests next.new) }
     ensures same { IsSameLookup lookup.old lookup.new }
 {
     match look_again(lookup, found.looks.as_slice()) {

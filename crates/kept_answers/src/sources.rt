@@ -11,6 +11,7 @@ ghost use Rattle.kept_answers.specs.Entries.{source_seen};
 ghost use Rattle.kept_answers.specs.Freshness.{module_looks, put_looks, IsSeenNow, StaysSeen, TakesStepIfFresh};
 ghost use Rattle.kept_answers.specs.KnownLooks.{done, AreLooksAt, IsKept};
 ghost use Rattle.kept_answers.specs.Puts.{PutsLooks};
+ghost use Rattle.kept_answers.specs.RightAnswers.{AnsweredIf};
 ghost use Rattle.kept_answers.specs.Tables.{IsModuleOf, AreModules};
 
 use crate::looks::{LookedAt, look_again, looks_of};
@@ -33,8 +34,7 @@ impl KeptModules {
         steps: &mut Steps<L>,
         next: &mut KeptModules,
     ) -> Result<Result<Source, NoSource>, LookupFault>
-        requires right { IfSome (F.state lookup.old.folder.now).holds (λ tree. AreModules self.now) }
-        ensures answered { Answered (begun_of F.state lookup.old) (spec.module_source path.now)
+        ensures answered { AnsweredIf (AreModules self.now) (begun_of F.state lookup.old) (spec.module_source path.now)
             (looked source_in result) (state_of F.state lookup.new) }
         ensures cost { steps.new ≤ steps.old + 1 }
         ensures fresh { TakesStepIfFresh (F.state lookup.old.folder.now) lookup.old.known.now
@@ -45,7 +45,7 @@ impl KeptModules {
         ensures still { (other : List ℕ) → StaysSeen (state_of F.state lookup.old)
             (module_looks next.old other) (module_looks next.new other) }
         ensures right { IfSome (F.state lookup.old.folder.now).holds
-            (λ tree. AreModules next.old → AreModules next.new) }
+            (λ tree. AreModules self.now → AreModules next.old → AreModules next.new) }
         ensures same { IsSameLookup lookup.old lookup.new }
     {
         match self.get(path) {
@@ -63,9 +63,8 @@ fn module_again<F: Folder, L: Ledger>(
     next: &mut KeptModules,
     found: &KeptModule,
 ) -> Result<Result<Source, NoSource>, LookupFault>
-    requires right { IfSome (F.state lookup.old.folder.now).holds (λ tree. IsModuleOf path.now found.now) }
-    ensures answered { Answered (begun_of F.state lookup.old) (spec.module_source path.now)
-        (looked source_in result) (state_of F.state lookup.new) }
+    ensures answered { AnsweredIf (IsModuleOf path.now found.now) (begun_of F.state lookup.old)
+        (spec.module_source path.now) (looked source_in result) (state_of F.state lookup.new) }
     ensures cost { steps.new ≤ steps.old + 1 }
     ensures fresh { TakesStepIfFresh (F.state lookup.old.folder.now) lookup.old.known.now (Some found.now.looks)
         steps.old steps.new }
@@ -74,7 +73,8 @@ fn module_again<F: Folder, L: Ledger>(
         (module_looks next.new path.now))) }
     ensures still { (other : List ℕ) → StaysSeen (state_of F.state lookup.old) (module_looks next.old other)
         (module_looks next.new other) }
-    ensures right { IfSome (F.state lookup.old.folder.now).holds (λ tree. AreModules next.old → AreModules next.new) }
+    ensures right { IfSome (F.state lookup.old.folder.now).holds
+        (λ tree. IsModuleOf path.now found.now → AreModules next.old → AreModules next.new) }
     ensures same { IsSameLookup lookup.old lookup.new }
 {
     match look_again(lookup, found.looks()) {

@@ -49,12 +49,13 @@ use Rattle.kept_trace.specs.Sharing.{IsToldAs}
 use Rattle.kept_trace.specs.declared.kept.Kept.{Kept}
 use Rattle.kept_trace.proofs.Telling.{answers_always, with_told, told_so, if_each}
 
-pub same_stays : {F : Type 0} (old new : Lookup F) (steps next : ℕ) (kept : Kept) → IsSameLookup old new
-    → stays_of new steps next kept ≡ stays_of old steps next kept
-same_stays old new steps next kept same =
+pub same_stays : {F : Type 0} (old new : Lookup F) (steps place : ℕ) (next later : Kept)
+    → later.requests.names ≡ next.requests.names → IsSameLookup old new
+    → stays_of new steps place later ≡ stays_of old steps place next
+same_stays old new steps place next later named same =
     (λ i. record {
-      references = same.folder i ∷ same.known i ∷ steps ∷ same.trail i ∷ next ∷ [];
-      names = kept.requests.names;
+      references = same.folder i ∷ same.known i ∷ steps ∷ same.trail i ∷ place ∷ [];
+      names = named i;
     })
 
 looks_under : (kept : Kept) (conditions : List (List ℕ)) (parent specifier : List ℕ)

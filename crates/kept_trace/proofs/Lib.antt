@@ -4,5 +4,6 @@ pub mod Readying
 pub mod Naming
 pub mod Walking
 pub mod Telling
+pub mod RightMeetings
 pub mod KeepingAnswers
 pub mod AskedKept

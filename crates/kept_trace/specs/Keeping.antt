@@ -1,5 +1,6 @@
 -- Answers that are kept for the next trace.
---     stays_of lookup steps next kept      what an answerer by kept answers leaves as it is
+--     stays_of lookup steps place next     what an answerer by kept answers leaves as it is
+--     answers_if right answers      the answers are those that are told where what is kept is right
 --     IsUnder kept question         answers are kept under the question's conditions, where it has some
 --     IsGivenBy question answer     there is a source, or a module
 --     keeps kept sights question    where it comes to that, an answer to it is kept whose looks see what stands there
@@ -15,16 +16,29 @@ use Rattle.trace_spec.specs.Traces.{trace}
 use Rattle.package_lookup.specs.Looked.{Sees}
 use Rattle.package_lookup.specs.declared.known.Known.{Known}
 use Rattle.package_lookup.specs.declared.lookup.Lookup.{Lookup}
+use Rattle.trace_walk.specs.Meeting.{AnswererState}
 use Rattle.request_trace.specs.Answering.{Keeping, Stays}
 use Rattle.kept_trace.specs.Ready.{is_anew}
 use Rattle.kept_trace.specs.Tracing.{KeepsAsked}
 use Rattle.kept_trace.specs.declared.kept.Kept.{Kept}
 
 abbrev pub stays_of : {F : Type 0} → Lookup F → ℕ → ℕ → Kept → Stays
-stays_of lookup steps next kept =
+stays_of lookup steps place next =
     record {
-      references = lookup.folder.ghost_name ∷ lookup.known.ghost_name ∷ steps ∷ lookup.trail.ghost_name ∷ next ∷ [];
-      names = kept.requests.names;
+      references = lookup.folder.ghost_name ∷ lookup.known.ghost_name ∷ steps ∷ lookup.trail.ghost_name ∷ place ∷ [];
+      names = next.requests.names;
+    }
+
+abbrev pub answers_if : Type 0 → AnswererState → AnswererState
+answers_if right answers =
+    record {
+      told = λ told. answers.told told × right;
+      state = answers.state;
+      faults = answers.faults;
+      steps = answers.steps;
+      keeps = answers.keeps;
+      looks = answers.looks;
+      is_kept = answers.is_kept;
     }
 
 abbrev pub IsUnder : Kept → Question → Type 0

@@ -2,14 +2,12 @@
 --     AreAllRight kept               all that is kept is right
 --     IsEmptyUnder conditions kept   nothing is kept, and that under these conditions
 --     AreBothRight kept next         the answers of the walk before, and those that are kept for the next one
---     IsReady folder kept next       so it is where the folder tells a tree; and both are kept under the same
---                                    conditions
+--     AreUnderOne kept next          both are kept under the same conditions
 --     kept_looks kept question       the looks that are kept of a question
 --     is_anew kept sights question   the question is asked anew
-use Rattle.std.specs.Prelude.{◌≡◌, ℕ, Bool, List, bytes_eq, Option, None, IfSome, if◌then◌else◌}
+use Rattle.std.specs.Prelude.{◌≡◌, ℕ, Bool, List, bytes_eq, Option, None, if◌then◌else◌}
 use Rattle.std.specs.Cmp.Lexicographic.{pointwise}
 use Rattle.tree_spec.specs.LookAskings.{Sights}
-use Rattle.tree_spec.specs.States.{FolderState}
 use Rattle.trace_spec.specs.Questions.{Question, of_module, of_request}
 use Rattle.kept_spec.specs.Certificates.{LookSeen}
 use Rattle.kept_answers.specs.Entries.{Request}
@@ -30,10 +28,8 @@ pub record AreBothRight (kept next : Kept) : Type 0 where
   pub before : AreAllRight kept
   pub here : AreAllRight next
 
--- own: a folder that tells nothing owes nothing
-pub record IsReady (folder : FolderState) (kept next : Kept) : Type 0 where
-  pub right : IfSome folder.holds (λ tree. AreBothRight kept next)
-  pub names : kept.requests.names ≡ next.requests.names
+abbrev pub AreUnderOne : Kept → Kept → Type 0
+AreUnderOne kept next = kept.requests.names ≡ next.requests.names
 
 -- ---- what is asked anew
 

@@ -34,14 +34,15 @@ pub struct KeptAnswers<'a, 'b, 'c, 'd, F: Folder, L: Ledger> {
 impl<'a, 'b, 'c, 'd, F: Folder, L: Ledger> Answerer for KeptAnswers<'a, 'b, 'c, 'd, F, L> {
     ghost use Rattle.package_lookup.specs.Lookups.{state_of};
     ghost use Rattle.request_trace.specs.Answering.{answers_of};
-    ghost use Rattle.kept_trace.specs.Keeping.{keeps, stays_of};
-    ghost use Rattle.kept_trace.specs.Ready.{IsReady, is_anew};
+    ghost use Rattle.kept_trace.specs.Keeping.{answers_if, keeps, stays_of};
+    ghost use Rattle.kept_trace.specs.Ready.{AreBothRight, AreUnderOne, is_anew};
 
-    ghost state = { λ answers. answers_of (is_anew answers.kept.now) (keeps answers.next.now)
-        (stays_of answers.lookup answers.steps.ghost_name answers.next.ghost_name answers.kept.now)
-        answers.steps.now (state_of F.state answers.lookup) };
+    ghost state = { λ answers. answers_if (AreBothRight answers.kept.now answers.next.now)
+        (answers_of (is_anew answers.kept.now) (keeps answers.next.now)
+        (stays_of answers.lookup answers.steps.ghost_name answers.next.ghost_name answers.next.now)
+        answers.steps.now (state_of F.state answers.lookup)) };
 
-    ghost ready = { λ answers. IsReady (F.state answers.lookup.folder.now) answers.kept.now answers.next.now };
+    ghost ready = { λ answers. AreUnderOne answers.kept.now answers.next.now };
 
     fn module(
         &mut self,

@@ -1,5 +1,5 @@
 ghost use Rattle.std.specs.Prelude.{◌≡◌, IfOk};
-ghost use Rattle.kept_trace.specs.Ready.{IsEmptyUnder};
+ghost use Rattle.kept_trace.specs.Ready.{AreUnderOne, IsEmptyUnder};
 
 use condition_match::Conditions;
 use kept_answers::{KeptModules, KeptRequests};
@@ -24,13 +24,22 @@ impl Kept {
             requests: KeptRequests::new(alloc, conditions)?,
         })
     }
+
+    /// Nothing is kept any more.
+    pub(crate) fn clear(&mut self)
+        ensures { IsEmptyUnder self.old.requests.names self.new }
+    {
+        self.modules.clear();
+        self.requests.clear();
+    }
 }
 
-/// What is kept of the answers of a walk, and what is kept for the next one.
+/// What is kept of the answers of a walk, and what is kept for the next one, under the same conditions.
 #[derive(Drop)]
 pub struct TraceAnswers {
     pub(crate) kept: Kept,
     pub(crate) next: Kept,
+    ghost under: { AreUnderOne kept next },
 }
 
 impl TraceAnswers {

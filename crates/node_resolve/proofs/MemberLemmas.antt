@@ -2,6 +2,7 @@
 --     mixed_is                     some names pass and some don't
 --     no_field, dot_at             the value with a name, by where the name stands
 --     distinct_in                  the names of an object whose values all have distinct ones
+--     comes_from, comes_to_same    what is left of a target
 --     field_passed, field_here     the value with a name, member by member
 --     none_first, target_is        the key that is taken
 use Rattle.std.proofs.Common.{◌≡◌, ◌&&◌, ◌||◌, ℕ, zero, suc, Bool, true, false, not, List, [], ◌∷◌, Option, Some, None, refl, sym, ap, ◌∙◌, subst}
@@ -24,6 +25,7 @@ use Rattle.node_spec.proofs.KeyChoice.{finds_key}
 use Rattle.node_spec.proofs.PatternChoice.{one_choice}
 use Rattle.node_spec.specs.PatternKeyCompare.{KeyFound, first_key, pattern_match}
 use Rattle.node_spec.specs.PatternKeys.{HasNoStar, KeyMatch, IsChoice, MatchesNone}
+use Rattle.condition_match.specs.Reducing.{ComesAs}
 use Rattle.node_spec.specs.Records.{field}
 use Rattle.node_resolve.specs.Members.{IsTarget}
 
@@ -49,6 +51,16 @@ mixed_is members has are h a = (λ i. h i && not (a i)) ∙ ap (λ b. has_dotted
 
 pub distinct_in : (value : Json) (members : Members) → value ≡ an_object members → HasDistinctNames value → AreDistinct members
 distinct_in value members e distinct = (subst HasDistinctNames e distinct).0
+
+-- ---- what is left of a target
+
+pub comes_from : (conditions : List (List ℕ)) (imports : Bool) (target other made : Json) → target ≡ other
+    → ComesAs conditions imports other made → ComesAs conditions imports target made
+comes_from conditions imports target other made e comes = subst (λ t. ComesAs conditions imports t made) (sym e) comes
+
+pub comes_to_same : (conditions : List (List ℕ)) (imports : Bool) (target made : Json) → made ≡ target
+    → ComesAs conditions imports target made
+comes_to_same conditions imports target made e = subst (λ m. ComesAs conditions imports target m) (sym e) (λ star asked out r. r)
 
 -- ---- the value with a name
 

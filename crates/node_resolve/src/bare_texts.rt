@@ -7,6 +7,8 @@ ghost use Rattle.node_spec.specs.PackageTargetResolve.{last_found, target_comes,
 ghost use Rattle.node_spec.specs.declared.Cause.TheVariants.{ImportNotDefined};
 ghost use Rattle.ordered_json.specs.Shown.{json_of};
 ghost use Rattle.condition_match.specs.Choosing.{judged_by};
+ghost use Rattle.condition_match.specs.Reducing.{ComesAs};
+ghost use Rattle.json_spec.specs.Value.{Json};
 ghost use Rattle.package_lookup.specs.Answered.{Answered};
 ghost use Rattle.package_lookup.specs.Lookups.{state_of, IsSameLookup};
 ghost use Rattle.package_lookup.specs.Responses.{itself};
@@ -101,7 +103,7 @@ fn judge_bare(found: &Result<FileUrl, Refusal>) -> BareAnswer
     }
 }
 
-/// The URL that a target in `imports` gives in the package at a folder.
+/// The URL that a target in `imports` gives in the package at a folder, by what is left of it.
 pub fn import_target<F: Folder>(
     lookup: &mut Lookup<'_, F>,
     package_folder: &Path,
@@ -109,10 +111,11 @@ pub fn import_target<F: Folder>(
     star: Option<&str>,
     conditions: &Conditions,
 ) -> Result<FileUrl, NodeFault>
-    ensures answered { Answered (state_of F.state lookup.old)
+    ensures answered { (given : Json) → ComesAs conditions.now true given (json_of target.now)
+        → Answered (state_of F.state lookup.old)
         (package_target (bares_from conditions.now package_folder.now)
         (judged_by conditions.now (option_map (λ part. part.now) star.entry) true)
-        package_folder.now ImportNotDefined (json_of target.now))
+        package_folder.now ImportNotDefined given)
         (responded itself result) (state_of F.state lookup.new) }
     ensures same { IsSameLookup lookup.old lookup.new }
 {
@@ -133,9 +136,10 @@ fn chosen<F: Folder>(
     last: &mut Option<Result<FileUrl, Refusal>>,
 ) -> Result<Outcome, NodeFault>
     requires { last.now ≡ None }
-    ensures answered { Answered (state_of F.state lookup.old)
+    ensures answered { (given : Json) → ComesAs conditions.now true given (json_of target.now)
+        → Answered (state_of F.state lookup.old)
         (target_comes (bares_from conditions.now package_folder.now)
-        (judged_by conditions.now (option_map (λ part. part.now) star.entry) true) (json_of target.now) None)
+        (judged_by conditions.now (option_map (λ part. part.now) star.entry) true) given None)
         (chosen_shown result last.new) (state_of F.state lookup.new) }
     ensures place { IfOk result BeginsWithDotSlash }
     ensures same { IsSameLookup lookup.old lookup.new }
@@ -162,10 +166,10 @@ fn chosen_by<F: Folder>(
     requires last { bares.now.last.now ≡ None }
     requires fault { bares.now.fault ≡ None }
     ensures names { KeepsNames bares.old bares.new }
-    ensures answered { Answered
+    ensures answered { (given : Json) → ComesAs conditions.now true given (json_of target.now) → Answered
         (state_of F.state bares.old.lookup.now)
         (target_comes (bares_from bares.old.conditions.now bares.old.package_folder.now)
-        (judged_by conditions.now (option_map (λ part. part.now) star.entry) true) (json_of target.now) None)
+        (judged_by conditions.now (option_map (λ part. part.now) star.entry) true) given None)
         (chosen_shown result bares.new.last.now)
         (state_of F.state bares.new.lookup.now) }
     ensures place { IfOk result BeginsWithDotSlash }

@@ -1,38 +1,47 @@
 //! The target of a key in an object of subpaths (Node.js, ECMAScript modules: PACKAGE_IMPORTS_EXPORTS_RESOLVE).
-ghost use Rattle.std.specs.Prelude.{◌≡◌, None, IfOk, MatchOption, option_map};
+ghost use Rattle.std.specs.Prelude.{◌≡◌, None, Bool, IfOk, MatchOption, option_map};
 ghost use Rattle.json_spec.specs.Value.{AreDistinct, names_of};
 ghost use Rattle.exports_patterns.specs.Found.{HasSpan, keys_of, match_shown};
 ghost use Rattle.exports_patterns.specs.Indexes.{IsIndex};
 ghost use Rattle.node_spec.specs.PatternKeyCompare.{first_key, pattern_match};
 ghost use Rattle.ordered_json.specs.Lists.{pairs_of};
 ghost use Rattle.ordered_json.specs.Shown.{json_of, members_of};
-ghost use Rattle.node_resolve.specs.Members.{IsTarget};
+ghost use Rattle.package_record.specs.Indexed.{IsSubpaths};
+ghost use Rattle.node_resolve.specs.Members.{IsLeftTarget};
 
-use exports_patterns::{Keys, Match, indexed_match};
+use condition_match::Conditions;
+use exports_patterns::{Match, indexed_match};
 use ordered_json::{Members, Value};
+use package_record::Subpaths;
 use shared_types::Memory;
 use std::alloc::Global;
 
-/// The target of the key that is taken for a text, with what stands for each `*` of the target, if the key has one.
+/// The target of the key that is taken for a text, or what is left of it under these conditions, with what stands for
+/// each `*` of the target, if the key has one.
 pub fn target_of<'a, 'b>(
     alloc: Global,
+    subpaths: &'a Subpaths,
     members: &'a Members,
-    keys: &Keys,
     asked: &'b str,
+    conditions: &Conditions,
 ) -> Result<Option<(&'a Value, Option<&'b str>)>, Memory>
+    requires object { subpaths.now.value ≡ Value.Object members.now }
     requires distinct { AreDistinct (members_of (pairs_of members.now)) }
-    requires indexed { IsIndex (keys_of members.now) keys.now }
-    ensures { IfOk result (λ target. MatchOption target
+    requires indexed { IsIndex (keys_of members.now) subpaths.now.index.keys }
+    ensures { (imports : Bool) → IsSubpaths imports subpaths.now → IfOk result (λ target. MatchOption target
         (first_key asked.now (names_of (members_of (pairs_of members.now))) ≡ None)
-        (λ found. IsTarget (members_of (pairs_of members.now)) asked.now (json_of found.0.now)
-        (option_map (λ part. part.now) found.1))) }
+        (λ found. IsLeftTarget conditions.now imports (members_of (pairs_of members.now)) asked.now
+        (json_of found.0.now) (option_map (λ part. part.now) found.1))) }
 {
-    match indexed_match(alloc, keys, members, asked) {
+    match indexed_match(alloc, &subpaths.index.keys, members, asked) {
         Err(fault) => Err(fault),
         Ok(None) => Ok(None),
         Ok(Some(found)) => match members.at(found.index) {
             None => Ok(None),
-            Some((_, target)) => Ok(Some((target, part_of(asked, found)))),
+            Some((_, target)) => {
+                let target = subpaths.target_at(found.index, target, conditions);
+                Ok(Some((target, part_of(asked, found))))
+            }
         },
     }
 }

@@ -1,8 +1,5 @@
 //! A specifier that begins with `#` (Node.js, ECMAScript modules: PACKAGE_IMPORTS_RESOLVE).
-ghost use Rattle.std.specs.Prelude.{◌≡◌, Some, ◌||◌, codes, bytes_eq};
-ghost use Rattle.json_spec.specs.Value.{AreDistinct};
-ghost use Rattle.exports_patterns.specs.Found.{keys_of};
-ghost use Rattle.exports_patterns.specs.Indexes.{IsIndex};
+ghost use Rattle.std.specs.Prelude.{◌≡◌, Some, ◌||◌, true, codes, bytes_eq};
 ghost use Rattle.package_record.specs.Indexed.{IsSubpaths};
 ghost use Rattle.url_spec.specs.Specifiers.{begins, ends_in_slash};
 ghost use Rattle.node_spec.specs.PackageImportsExportsResolve.{by_key};
@@ -20,10 +17,9 @@ use crate::fault::behind;
 use crate::package_imports_exports_resolve::target_of;
 use crate::texts::{begins, ends_in_slash};
 use condition_match::Conditions;
-use exports_patterns::Keys;
 use node_spec::Cause;
 use ordered_json::{Members, Value};
-use package_lookup::{Lookup, record_of, scope_of};
+use package_lookup::{Lookup, record_under, scope_of};
 use package_record::Subpaths;
 use tree_model::{Folder, Path};
 use web_url::FileUrl;
@@ -69,7 +65,7 @@ fn imported_at<F: Folder>(
         (responded itself result) (state_of F.state lookup.new) }
     ensures same { IsSameLookup lookup.old lookup.new }
 {
-    match record_of(lookup, scope) {
+    match record_under(lookup, scope, conditions) {
         Err(fault) => Err(behind(fault)),
         Ok(None) => Err(NodeFault::Refused(Cause::ImportNotDefined)),
         Ok(Some(of_scope)) => imported(lookup, scope, text, &of_scope.imports, conditions),
@@ -84,21 +80,14 @@ fn imported<F: Folder>(
     imports: &Subpaths,
     conditions: &Conditions,
 ) -> Result<FileUrl, NodeFault>
-    requires { IsSubpaths imports.now }
+    requires { IsSubpaths true imports.now }
     ensures answered { Answered (state_of F.state lookup.old)
         (spec.imported conditions.now scope.now text.now (json_of imports.now.value))
         (responded itself result) (state_of F.state lookup.new) }
     ensures same { IsSameLookup lookup.old lookup.new }
 {
     match &imports.value {
-        Value::Object(members) => import_at(
-            lookup,
-            scope,
-            text,
-            members,
-            &imports.index.keys,
-            conditions,
-        ),
+        Value::Object(members) => { import_at(lookup, scope, text, imports, members, conditions) }
         Value::Null => Err(NodeFault::Refused(Cause::ImportNotDefined)),
         Value::Bool(_) => Err(NodeFault::Refused(Cause::ImportNotDefined)),
         Value::Number(_) => Err(NodeFault::Refused(Cause::ImportNotDefined)),
@@ -112,18 +101,18 @@ fn import_at<F: Folder>(
     lookup: &mut Lookup<'_, F>,
     scope: &Path,
     text: &str,
+    imports: &Subpaths,
     members: &Members,
-    keys: &Keys,
     conditions: &Conditions,
 ) -> Result<FileUrl, NodeFault>
-    requires distinct { AreDistinct (members_of (pairs_of members.now)) }
-    requires indexed { IsIndex (keys_of members.now) keys.now }
+    requires subpaths { IsSubpaths true imports.now }
+    requires object { imports.now.value ≡ Value.Object members.now }
     ensures answered { Answered (state_of F.state lookup.old)
         (by_key (spec.import_paths conditions.now scope.now (members_of (pairs_of members.now))) text.now)
         (responded itself result) (state_of F.state lookup.new) }
     ensures same { IsSameLookup lookup.old lookup.new }
 {
-    match target_of(lookup.alloc, members, keys, text) {
+    match target_of(lookup.alloc, imports, members, text, conditions) {
         Err(_) => Err(NodeFault::Memory),
         Ok(None) => Err(NodeFault::Refused(Cause::ImportNotDefined)),
         Ok(Some((target, star))) => import_target(lookup, scope, target, star, conditions),

@@ -1,5 +1,5 @@
 //! A bare specifier from a folder (Node.js, ECMAScript modules: PACKAGE_RESOLVE).
-ghost use Rattle.std.specs.Prelude.{◌≡◌, Some, option_map};
+ghost use Rattle.std.specs.Prelude.{◌≡◌, false, Some, option_map};
 ghost use Rattle.node_spec.specs.PackageResolve as spec;
 ghost use Rattle.ordered_json.specs.Shown.{json_of};
 ghost use Rattle.package_lookup.specs.Answered.{Answered};
@@ -21,7 +21,7 @@ use crate::package_self_resolve::{is_null, package_self_resolve};
 use crate::texts::{ends_in_slash, same};
 use condition_match::Conditions;
 use node_spec::Cause;
-use package_lookup::{Lookup, find_package, record_of};
+use package_lookup::{Lookup, find_package, record_under};
 use package_record::Package;
 use tree_model::{Folder, Path};
 use web_url::FileUrl;
@@ -114,7 +114,7 @@ fn resolve_in_folder<F: Folder>(
         (responded itself result) (state_of F.state lookup.new) }
     ensures same { IsSameLookup lookup.old lookup.new }
 {
-    match record_of(lookup, package_folder) {
+    match record_under(lookup, package_folder, conditions) {
         Err(fault) => Err(behind(fault)),
         Ok(None) => resolve_file(lookup, package_folder, subpath, None),
         Ok(Some(of_package)) => resolve_by_record(
@@ -134,7 +134,7 @@ fn resolve_by_record<F: Folder>(
     of_package: &Package,
     conditions: &Conditions,
 ) -> Result<FileUrl, NodeFault>
-    requires names { IsSubpaths of_package.now.exports }
+    requires names { IsSubpaths false of_package.now.exports }
     requires subpath { IsSubpath subpath.now }
     ensures answered { Answered (state_of F.state lookup.old)
         (spec.by_record conditions.now package_folder.now subpath.now (Some (record_shown of_package.now)))

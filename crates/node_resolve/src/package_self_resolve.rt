@@ -1,5 +1,5 @@
 //! A package that names itself (Node.js, ECMAScript modules: PACKAGE_SELF_RESOLVE).
-ghost use Rattle.std.specs.Prelude.{◌≡◌, ◌&&◌, not, Some};
+ghost use Rattle.std.specs.Prelude.{◌≡◌, ◌&&◌, not, false, Some};
 ghost use Rattle.package_record.specs.Indexed.{IsSubpaths};
 ghost use Rattle.package_record.specs.Shown.{record_shown};
 ghost use Rattle.node_spec.specs.PackageSelfResolve.{has_name, is_null};
@@ -17,7 +17,7 @@ use crate::package_exports_resolve::exported;
 use crate::package_name::Subpath;
 use condition_match::Conditions;
 use ordered_json::Value;
-use package_lookup::{Lookup, record_of, scope_of};
+use package_lookup::{Lookup, record_under, scope_of};
 use package_record::Package;
 use std::alloc::Global;
 use tree_model::{Folder, Path};
@@ -53,7 +53,7 @@ fn self_at<F: Folder>(
         (responded itself result) (state_of F.state lookup.new) }
     ensures same { IsSameLookup lookup.old lookup.new }
 {
-    match record_of(lookup, scope) {
+    match record_under(lookup, scope, conditions) {
         Err(fault) => Err(behind(fault)),
         Ok(None) => Ok(None),
         Ok(Some(of_scope)) => self_in(lookup.alloc, scope, asked, &of_scope, conditions),
@@ -67,7 +67,7 @@ fn self_in(
     of_scope: &Package,
     conditions: &Conditions,
 ) -> Result<Option<FileUrl>, NodeFault>
-    requires { IsSubpaths of_scope.now.exports }
+    requires { IsSubpaths false of_scope.now.exports }
     ensures { Gives itself (named_itself_in conditions.now scope.now (subpath_of asked.now)
         (Some (record_shown of_scope.now))) result }
 {

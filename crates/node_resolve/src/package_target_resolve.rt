@@ -6,6 +6,8 @@ ghost use Rattle.node_spec.specs.Laws.{BeginsWithDotSlash};
 ghost use Rattle.node_spec.specs.declared.Cause.TheVariants.{NotExported};
 ghost use Rattle.ordered_json.specs.Shown.{json_of};
 ghost use Rattle.condition_match.specs.Choosing.{judged_by};
+ghost use Rattle.condition_match.specs.Reducing.{ComesAs};
+ghost use Rattle.json_spec.specs.Value.{Json};
 ghost use Rattle.url_spec.specs.Specifiers.{begins};
 ghost use Rattle.package_lookup.specs.Responses.{itself};
 ghost use Rattle.node_resolve.specs.Responses.{Gives};
@@ -35,7 +37,7 @@ impl BareTarget for NoBares {
     }
 }
 
-/// The URL that a target in `exports` gives in the package at a folder.
+/// The URL that a target in `exports` gives in the package at a folder, by what is left of it.
 pub fn export_target(
     alloc: Global,
     package_folder: &Path,
@@ -43,9 +45,10 @@ pub fn export_target(
     star: Option<&str>,
     conditions: &Conditions,
 ) -> Result<FileUrl, NodeFault>
-    ensures { Gives itself (package_target no_bares
+    ensures { (given : Json) → ComesAs conditions.now false given (json_of target.now)
+        → Gives itself (package_target no_bares
         (judged_by conditions.now (option_map (λ part. part.now) star.entry) false)
-        package_folder.now NotExported (json_of target.now)) result }
+        package_folder.now NotExported given) result }
 {
     let outcome = choose(alloc, target, conditions, star, false, &mut NoBares)?;
     own_url(alloc, package_folder, Cause::NotExported, outcome)

@@ -58,6 +58,21 @@ counted_many trail path found room =
     many_by trail path found (is_seen path trail.paths) (nat_lt (length trail.paths) look_limits.looks) (is_large found)
     (nat_lt look_limits.bytes (trail.size + size_at found)) room
 
+room_by : (trail : Trail) (path : List ℕ) (found : Option Entry) (seen few large heavy : Bool) → (few || seen) ≡ true
+    → by_tests trail path found seen few large heavy ≡ Err Looks → ⊥
+room_by trail path found true few true heavy room e = cc
+room_by trail path found true few false heavy room e = cc
+room_by trail path found false true true heavy room e = cc
+room_by trail path found false true false true room e = cc
+room_by trail path found false true false false room e = cc
+room_by trail path found false false large heavy room e = cc
+
+pub counted_room : (trail : Trail) (path : List ℕ) (found : Option Entry) → has_room trail path ≡ true
+    → counted look_limits trail path found ≡ Err Looks → ⊥
+counted_room trail path found room e =
+    room_by trail path found (is_seen path trail.paths) (nat_lt (length trail.paths) look_limits.looks) (is_large found)
+    (nat_lt look_limits.bytes (trail.size + size_at found)) room e
+
 -- ---- two files above the limit are counted alike
 
 alike_by : (trail : Trail) (path : List ℕ) (found other : Option Entry) (seen few some large heavy loud : Bool)

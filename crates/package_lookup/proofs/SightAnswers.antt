@@ -25,7 +25,7 @@ use Rattle.package_lookup.specs.Responses.{passes, not_read, no_memory, never, R
 use Rattle.package_lookup.specs.Answered.{State, state, Comes, Tells, IsLookOf, IsCovered, AsksOnce, Answered}
 use Rattle.package_lookup.specs.Fetching.{unknown, IsAsked, Fetches}
 use Rattle.package_lookup.proofs.LookCounts.{counted_large, counted_many, counted_named, counted_alike, counted_paths, counted_within, small_within, stands_counted, large_seen}
-use Rattle.package_lookup.proofs.Reaching.{reached_now}
+use Rattle.package_lookup.proofs.Reaching.{room_there, reached_now}
 use Rattle.package_lookup.proofs.Questions.{nothing, asks_nothing, covers_still, failed, lengthens_itself}
 
 abbrev End : Type 0
@@ -74,12 +74,13 @@ asks_told (Some list) before after unfinished Among path result here covers aske
     asks_covered list before after unfinished Among path asked.0 here asked.1 (covers asked.0 asked.2)
 
 -- the path at which a look looks
-looks_there : (path : List ℕ) (holds : Option Tree) (known : Known) (trail : Trail)
+looks_there : (path : List ℕ) (holds : Option Tree) (known : Known) (trail : Trail) → has_room trail path ≡ true
     → IfSome holds
     (λ tree. (sights : Sights) → Sees tree known sights
     → IsReached look_limits sights trail (looks sights (look_at path)) path)
-looks_there path None known trail = tt
-looks_there path (Some tree) known trail = λ sights sees. reached_now look_limits sights trail path []
+looks_there path None known trail room = tt
+looks_there path (Some tree) known trail room = λ sights sees.
+    reached_now look_limits sights trail path [] (room_there sights trail path room)
 
 -- ---- a look that was fetched
 
@@ -99,7 +100,8 @@ tells_told None before after old new trail later path response told same = tt
 tells_told (Some tree) before after old new trail later path response told same =
     record { says = told tree same; same = same }
 
-module _ (before after : FolderState) (old new : Known) (trail : Trail) (path : List ℕ) where
+module _ (before after : FolderState) (old new : Known) (trail : Trail) (path : List ℕ)
+    (room : has_room trail path ≡ true) where
   answers : (later : Trail) (result : Result Look LookupFault) (response : Response (Option Entry))
       → Fetches before old path result after new → Told old new trail path response later
       → ((more : List (List ℕ)) → IsAsked old path result more → Covers old new path (response ≡ fails no_memory) more)
@@ -112,8 +114,8 @@ module _ (before after : FolderState) (old new : Known) (trail : Trail) (path : 
     trail = lengthens;
     covered = keeps;
     asked = asks_told before.asked (state before old trail) (state after new later) (response ≡ fails no_memory)
-        (IsLookOf (state before old trail) (look_at path)) path result (looks_there path before.holds old trail) covers
-        fetches.asked;
+        (IsLookOf (state before old trail) (look_at path)) path result (looks_there path before.holds old trail room)
+        covers fetches.asked;
     folder = only;
     possible = possible;
   }
@@ -181,9 +183,9 @@ module _ (before after : FolderState) (old new : Known) (trail : Trail) (path : 
       (fine look (fails (passes which)) (λ e. cc) fetches.folder) (λ e. cc) (lengthens_itself trail)
       (λ finished. still_covered fetches.grows)
 
-  pub sight_large : Fetches before old path (Ok TooLarge) after new → has_room trail path ≡ true
+  pub sight_large : Fetches before old path (Ok TooLarge) after new
       → Answered (state before old trail) (look_at path) (fails (passes limit.File)) (state after new trail)
-  sight_large fetches room =
+  sight_large fetches =
       limit_passed TooLarge limit.File fetches
       (λ tree same sights sees. counted_large trail path (sights path) room
       (large_seen (sights path) (seen_now TooLarge fetches.known tree same sights sees)))

@@ -3,7 +3,7 @@
 --     IsNamedApart found         the keys of each object in `exports` and `imports` are distinct, and their own indexed
 --     IsReadingOf look reading     it was read from the bytes of this look
 --     AreReadingsOf look reading   the same, where it was read
-use Rattle.std.specs.Prelude.{◌≡◌, ℕ, List, Option, Result, Ok, Err, ⊤, IfSome}
+use Rattle.std.specs.Prelude.{◌≡◌, ℕ, true, false, List, Option, Result, Ok, Err, ⊤, IfSome}
 use Rattle.node_spec.specs.Records.{Record, RecordFault, InvalidRecord, DeepRecord, ReadsRecord}
 use Rattle.package_record.specs.Indexed.{IsSubpaths}
 use Rattle.package_record.specs.Shown.{record_shown}
@@ -19,8 +19,8 @@ outcome_of NotWellFormed = Err InvalidRecord
 outcome_of TooDeep = Err DeepRecord
 
 pub record IsNamedApart (found : Package) : Type 0 where
-  pub exports : IsSubpaths found.exports
-  pub imports : IsSubpaths found.imports
+  pub exports : IsSubpaths false found.exports
+  pub imports : IsSubpaths true found.imports
 
 abbrev pub AreNamedApart : Reading → Type 0
 AreNamedApart (Found shared) = IsNamedApart shared.value

@@ -3,15 +3,17 @@
 --     OnCount old counted result new     the call does what counting the look tells
 --     IsCounted shown old path result new      a look that answers is counted, and one that passes a limit leaves the trail
 --     Lengthens before after             the paths before are the first of those after, and the size doesn't fall
+--     HasRoom limits sights trail path   the look at the path isn't refused as one path too many, before it is made
 --     IsReached limits sights trail paths path
---                                        of looks at these paths one after another, one is at this path, and those
---                                        before it pass no limit
-use Rattle.std.specs.Prelude.{◌≡◌, ◌≤◌, ◌||◌, ◌++◌, ◌∷◌, ℕ, nat_lt, Bool, List, length, Option, Result, Ok, Err, ⊤}
+--                                        of looks at these paths one after another, one is at this path, those before
+--                                        it pass no limit, and there is room for it
+use Rattle.std.specs.Prelude.{◌≡◌, ◌≢◌, ◌≤◌, ◌||◌, ◌++◌, ◌∷◌, ℕ, nat_lt, Bool, List, length, Option, Result, Ok, Err, ⊤}
 use Rattle.asking_spec.specs.Evaluation.{ends, evaluated}
 use Rattle.tree_spec.specs.LookAskings.{Sights, look_at_each, is_seen}
 use Rattle.tree_spec.specs.LookLimits.{LookLimits, Trail, look_limits, counted, limited}
 use Rattle.tree_spec.specs.declared.Entry.{Entry}
 use Rattle.tree_spec.specs.declared.LimitName.{LimitName}
+use Rattle.tree_spec.specs.declared.LimitName.TheVariants.{Looks}
 use Rattle.package_lookup.specs.declared.fault.LookupFault.{LookupFault}
 use Rattle.package_lookup.specs.declared.fault.LookupFault.TheVariants.{ReadFault, Limit, InvalidConfig, Memory}
 
@@ -40,7 +42,11 @@ pub record Lengthens (before after : Trail) : Type 0 where
   pub paths : after.paths ≡ before.paths ++ more
   pub size : before.size ≤ after.size
 
--- own: so that looks behind the first limit are none; a path that stands in the list twice may be reached at either
+abbrev pub HasRoom : LookLimits → Sights → Trail → List ℕ → Type 0
+HasRoom limits sights trail path = counted limits trail path (sights path) ≢ Err Looks
+
+-- own: so that looks behind the first limit are none, and neither is that one where it is the limit of paths; a path
+-- that stands in the list twice may be reached at either
 pub record IsReached (limits : LookLimits) (sights : Sights) (trail : Trail) (paths : List (List ℕ))
     (path : List ℕ) : Type 0 where
   pub front : List (List ℕ)
@@ -48,3 +54,4 @@ pub record IsReached (limits : LookLimits) (sights : Sights) (trail : Trail) (pa
   pub split : paths ≡ front ++ path ∷ back
   pub before : Trail
   pub passes : evaluated (limited limits sights) trail (look_at_each front) ≡ ends tt before
+  pub room : HasRoom limits sights before path

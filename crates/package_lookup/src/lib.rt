@@ -23,7 +23,7 @@ pub use known::Known;
 pub use lookup::Lookup;
 pub use node_spec::Reason;
 pub use over::Over;
-pub use packages::{find_package, record_of, scope_of};
+pub use packages::{find_package, record_of, record_under, scope_of};
 pub use trail::Trail;
 
 /// Whatever a folder holds and whatever is known of it, something can stand at each path as looks tell it.

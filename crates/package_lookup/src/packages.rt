@@ -7,6 +7,7 @@ ghost use Rattle.node_spec.specs.PackageResolve.{package_folder, packages};
 ghost use Rattle.node_spec.specs.ReadPackageJson.{record_at, record_or_refusal};
 ghost use Rattle.tree_spec.specs.Paths.{IsPath, joined};
 ghost use Rattle.tree_spec.specs.declared.Entry.TheVariants.{Stored};
+ghost use Rattle.tree_spec.specs.declared.Look.{Look};
 ghost use Rattle.tree_spec.specs.declared.Look.TheVariants.{File};
 ghost use Rattle.package_lookup.specs.SeenLooks.{entry_of, look_seen};
 ghost use Rattle.package_lookup.specs.Readings.{outcome_of, AreNamedApart, AreReadingsOf, IsReadingOf};
@@ -18,7 +19,8 @@ ghost use Rattle.package_lookup.specs.Lookups.{state_of, IsSameLookup};
 
 use crate::held::Reading;
 use crate::{Known, Lookup, LookupFault, Seen};
-use package_record::{Package, PackageFault, read_package};
+use condition_match::Conditions;
+use package_record::{Package, PackageFault, is_ready, read_package};
 use shared_types::{Bytes, Memory};
 use std::alloc::{AllocError, Global};
 use std::rc::Rc;
@@ -125,6 +127,33 @@ pub fn record_of<F: Folder>(
     ensures named { AllNamedApart result }
     ensures same { IsSameLookup lookup.old lookup.new }
 {
+    record_by(lookup, at, None)
+}
+
+/// The same, where its targets will be asked for under these conditions.
+pub fn record_under<F: Folder>(
+    lookup: &mut Lookup<'_, F>,
+    at: &Path,
+    conditions: &Conditions,
+) -> Result<Option<Rc<Package>>, LookupFault>
+    ensures record { Answered (state_of F.state lookup.old) (record_at at.now)
+        (resolved shown_record result) (state_of F.state lookup.new) }
+    ensures named { AllNamedApart result }
+    ensures same { IsSameLookup lookup.old lookup.new }
+{
+    record_by(lookup, at, Some(conditions))
+}
+
+fn record_by<F: Folder>(
+    lookup: &mut Lookup<'_, F>,
+    at: &Path,
+    conditions: Option<&Conditions>,
+) -> Result<Option<Rc<Package>>, LookupFault>
+    ensures record { Answered (state_of F.state lookup.old) (record_at at.now)
+        (resolved shown_record result) (state_of F.state lookup.new) }
+    ensures named { AllNamedApart result }
+    ensures same { IsSameLookup lookup.old lookup.new }
+{
     match at.join(lookup.alloc, "package.json")? {
         None => Ok(None),
         Some(path) => match lookup
@@ -132,7 +161,9 @@ pub fn record_of<F: Folder>(
             .sight(lookup.alloc, lookup.folder, &path, lookup.trail)
         {
             Err(fault) => Err(fault),
-            Ok((seen, reading)) => recorded(lookup.alloc, lookup.known, path, seen, reading),
+            Ok((seen, reading)) => {
+                recorded(lookup.alloc, lookup.known, path, seen, reading, conditions)
+            }
         },
     }
 }
@@ -144,6 +175,7 @@ fn recorded(
     path: Path,
     seen: Seen,
     reading: Option<Reading>,
+    conditions: Option<&Conditions>,
 ) -> Result<Option<Rc<Package>>, LookupFault>
     requires known { known_at known.old path ≡ Some (look_seen seen) }
     requires readings { AreReadingsOf (look_seen seen) reading }
@@ -154,9 +186,36 @@ fn recorded(
     match seen {
         Seen::Absent => Ok(None),
         Seen::Folder => Ok(None),
-        Seen::File(bytes) => match reading {
+        Seen::File(bytes) => match ready(reading, bytes.as_bytes(), conditions) {
             Some(reading) => record_in(reading),
-            None => read_now(alloc, known, path, bytes),
+            None => read_now(alloc, known, path, bytes, conditions),
+        },
+    }
+}
+
+// What was read, where it keeps what it would keep under these conditions.
+fn ready(reading: Option<Reading>, bytes: &[u8], conditions: Option<&Conditions>) -> Option<Reading>
+    ensures { (look : Look) → AreReadingsOf look reading → AreReadingsOf look result }
+{
+    match reading {
+        None => None,
+        Some(reading) => {
+            if keeps(&reading, bytes, conditions) {
+                Some(reading)
+            } else {
+                None
+            }
+        }
+    }
+}
+
+fn keeps(reading: &Reading, bytes: &[u8], conditions: Option<&Conditions>) -> bool {
+    match conditions {
+        None => true,
+        Some(conditions) => match reading {
+            Reading::Found(package) => is_ready(package, bytes, conditions),
+            Reading::NotWellFormed => true,
+            Reading::TooDeep => true,
         },
     }
 }
@@ -180,22 +239,27 @@ fn read_now(
     known: &mut Known,
     path: Path,
     bytes: Rc<Bytes>,
+    conditions: Option<&Conditions>,
 ) -> Result<Option<Rc<Package>>, LookupFault>
     requires { known_at known.old path ≡ Some (File bytes.value) }
     ensures record { IsRecorded (Some (Stored bytes.value)) result }
     ensures named { AllNamedApart result }
     ensures same { IsSameKnown known.old known.new }
 {
-    let reading = reading_of(alloc, bytes.as_bytes())?;
+    let reading = reading_of(alloc, bytes.as_bytes(), conditions)?;
     let copy = reading.copy()?;
     known.keep_reading(path, Seen::File(bytes), copy)?;
     record_in(reading)
 }
 
-fn reading_of(alloc: Global, bytes: &[u8]) -> Result<Reading, Memory>
+fn reading_of(
+    alloc: Global,
+    bytes: &[u8],
+    conditions: Option<&Conditions>,
+) -> Result<Reading, Memory>
     ensures { IfOk result (IsReadingOf (File bytes.now)) }
 {
-    match read_package(alloc, bytes) {
+    match read_package(alloc, bytes, conditions) {
         Ok(package) => Ok(Reading::Found(Rc::new(alloc, package)?)),
         Err(PackageFault::InvalidConfig) => Ok(Reading::NotWellFormed),
         Err(PackageFault::TooDeep) => Ok(Reading::TooDeep),

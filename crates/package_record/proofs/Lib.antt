@@ -1,2 +1,3 @@
 pub mod RecordLemmas
 mod NameLemmas
+pub mod LeftLemmas

@@ -1,3 +1,4 @@
 pub mod Shown
 pub mod Fields
 pub mod Indexed
+pub mod Targets

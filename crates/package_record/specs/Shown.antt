@@ -3,7 +3,7 @@
 --     IsReadFrom bytes found      the bytes have this record, and in its `exports` and `imports` the keys of
 --         each object are distinct and those of the value itself are indexed
 --     IsNoRecord bytes fault      the bytes have no record, for this reason, unless no memory was found
-use Rattle.std.specs.Prelude.{ℕ, List, ⊤, Ok, Err}
+use Rattle.std.specs.Prelude.{ℕ, List, true, false, ⊤, Ok, Err}
 use Rattle.ordered_json.specs.Shown.{json_of}
 use Rattle.node_spec.specs.Records.{Record, InvalidRecord, DeepRecord, ReadsRecord}
 use Rattle.package_record.specs.Indexed.{IsSubpaths}
@@ -24,8 +24,8 @@ record_shown found =
 
 pub record IsReadFrom (bytes : List ℕ) (found : Package) : Type 0 where
   pub reads : ReadsRecord bytes (Ok (record_shown found))
-  pub exports : IsSubpaths found.exports
-  pub imports : IsSubpaths found.imports
+  pub exports : IsSubpaths false found.exports
+  pub imports : IsSubpaths true found.imports
 
 abbrev pub IsNoRecord : List ℕ → PackageFault → Type 0
 IsNoRecord bytes InvalidConfig = ReadsRecord bytes (Err InvalidRecord)

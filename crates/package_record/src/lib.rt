@@ -2,9 +2,11 @@
 #![tactic(auto)]
 
 mod fields;
+mod left;
 mod package_json;
 mod subpaths;
 
+pub use left::LeftTargets;
 pub use node_spec::PackageKind;
-pub use package_json::{Package, PackageFault, read_package};
+pub use package_json::{Package, PackageFault, is_ready, read_package};
 pub use subpaths::{Index, Subpaths};

@@ -21,7 +21,7 @@ use Rattle.tree_spec.specs.declared.LimitName.{LimitName}
 use Rattle.tree_spec.specs.Limits.{limit_number}
 use Rattle.tree_spec.specs.declared.LimitName.TheVariants.{File, Bytes, Looks, Modules, ModuleRequests, Requests, Specifier, Entries, Brackets, Depth, Session, Map, Choices}
 use Rattle.tree_spec.specs.LookAskings.{Sights, looks}
-use Rattle.tree_spec.specs.LookLimits.{Trail, begun, no_trail, look_limits, limited}
+use Rattle.tree_spec.specs.LookLimits.{Trail, begun, no_trail, look_limits}
 use Rattle.tree_spec.specs.States.{FolderState}
 use Rattle.tree_spec.specs.Trees.{Tree}
 use Rattle.tree_spec.proofs.ToldStates.{if_all}
@@ -50,7 +50,7 @@ use Rattle.trace_walk.specs.Shown.{traced_of}
 use Rattle.trace_walk.specs.declared.tables.Tables.{Tables}
 use Rattle.package_lookup.specs.Lookups.{IsSameLookup}
 use Rattle.package_lookup.specs.declared.lookup.Lookup.{Lookup}
-use Rattle.request_trace.specs.Answering.{result_by, Freshness, Keeping, Stays, all_fresh, all_kept, told_by, ToldBy, TakesStep, answers_of}
+use Rattle.request_trace.specs.Answering.{result_by, Freshness, Keeping, Stays, all_fresh, all_kept, looked_to_end, told_by, ToldBy, TakesStep, answers_of}
 use Rattle.request_trace.specs.Answering.{stays_of, KeepsOn, KeepsAnswer}
 use Rattle.request_trace.specs.Tracing.{known_of, IsOfFootprint, TakesSteps, Traces}
 use Rattle.request_trace.proofs.WalkLooks.{reached_to_end, walk_looks}
@@ -165,7 +165,7 @@ module _ (is_fresh : Freshness) (keeping : Keeping) (stays : Stays) (taken spent
       by.holds is in
       subst (λ (t : Answering). Contains (looks_to_end t before.trail (fine (ask question answered))) path)
       (sym by.are)
-      (Contains-append_left (asked_to_end (limited look_limits by.sights) (begun before.trail) (put question))
+      (Contains-append_left (looked_to_end by.sights (begun before.trail) (put question))
       (asked_then (answers by.sights before.trail question) (λ answer after. [])) path
       (reached_to_end by.sights (begun before.trail) (put question) path (each by.sights by.sees)))
 
@@ -271,6 +271,7 @@ of_footprint is_fresh keeping (Some tree) stays taken config before path holds f
       split = reached.split;
       before = reached.before;
       passes = reached.passes;
+      room = reached.room;
     }
 
 pub traces_by : (is_fresh later_fresh : Freshness) (keeping later_keeping : Keeping) (stays others : Stays) (taken spent : ℕ) (config : Config) (before after : State)

@@ -1,8 +1,9 @@
 -- The looks of a walk's questions are those of the generation, up to the first limit.
 --     to_end_reached, reached_to_end      the looks of a question until it ends are those before which no limit is passed
+--                                         and for which there is room
 --     walk_looks                          so are those of a walk, whose trail counts a question's paths anew
-use Rattle.std.proofs.Common.{◌≡◌, ℕ, List, [], ◌∷◌, ◌++◌, Option, Result, Ok, Err, refl, sym, ap, ◌∙◌, subst, inl, inr}
-use Rattle.std.specs.Prelude.{Contains}
+use Rattle.std.proofs.Common.{◌≡◌, ℕ, Bool, true, false, List, [], ◌∷◌, ◌++◌, Option, Result, Ok, Err, refl, sym, ap, ◌∙◌, subst, inl, inr}
+use Rattle.std.specs.Prelude.{Contains, if◌then◌else◌}
 use Rattle.std.proofs.lemmas.List.Elements.{Contains-append_cases}
 use Rattle.asking_spec.specs.Askings.{Asking, answered, ask, outcome, through}
 use Rattle.asking_spec.specs.Evaluation.{Ended, ends, stopped, then_ended}
@@ -17,18 +18,23 @@ use Rattle.tree_spec.proofs.LimitedLooks.{LookEnd, visited}
 use Rattle.trace_spec.proofs.Generations.{looks_behind}
 use Rattle.trace_spec.specs.Laws.{without_question}
 use Rattle.trace_spec.specs.Questions.{Question, Answer, put, answers}
-use Rattle.package_lookup.specs.Trails.{IsReached}
+use Rattle.package_lookup.specs.Trails.{has_room, HasRoom, IsReached}
 use Rattle.package_lookup.proofs.Questions.{limited_always}
-use Rattle.package_lookup.proofs.Reaching.{reached_now, reached_as, reached_behind, reached_by_front, looks_passed}
-use Rattle.trace_walk.specs.Meeting.{asked_then, asked_to_end, looks_to_end}
-use Rattle.request_trace.specs.Answering.{Freshness, told_by}
+use Rattle.package_lookup.proofs.Reaching.{room_there, has_room_there, room_counted, reached_now, reached_as, reached_behind, reached_by_front, looks_passed}
+use Rattle.trace_walk.specs.Meeting.{asked_then, looks_to_end}
+use Rattle.request_trace.specs.Answering.{Freshness, looked_to_end, told_by}
 
 module _ (sights : Sights) where
   abbrev Reached : Trail → List (List ℕ) → List ℕ → Type 0
   Reached trail paths path = IsReached look_limits sights trail paths path
 
   abbrev to_end : {X : Type 0} → Trail → LookAsking X → List (List ℕ)
-  to_end trail asking = asked_to_end (limited look_limits sights) trail asking
+  to_end trail asking = looked_to_end sights trail asking
+
+  -- what an asking looks at behind its first look
+  abbrev behind_first : {X : Type 0} → Trail → List ℕ → (Option Entry → LookAsking X) → List (List ℕ)
+  behind_first trail first next =
+      asked_then (limited look_limits sights trail first) (λ found after. to_end after (next found))
 
   -- ---- one question
 
@@ -44,17 +50,27 @@ module _ (sights : Sights) where
       (ap (λ r. then_ended (told (sights first) trail r) (λ found t. visited look_limits sights t [])) c)
       (rest middle held)
 
+  first_by : {X : Type 0} (trail : Trail) (first path : List ℕ) (next : Option Entry → LookAsking X) (room : Bool)
+      → has_room trail first ≡ room
+      → ((middle : Trail) → Contains (to_end middle (next (sights first))) path
+      → Reached middle (looks sights (next (sights first))) path)
+      → Contains (if room then first ∷ behind_first trail first next else []) path
+      → Reached trail (first ∷ looks sights (next (sights first))) path
+  first_by trail first path next false e rest held = absurd (contains_none path held)
+  first_by trail first path next true e rest held =
+      elim (contains_cases path first (behind_first trail first next) held) [
+        | inl same ↦ subst (λ p. Reached trail (first ∷ looks sights (next (sights first))) p) same
+            (reached_now look_limits sights trail first (looks sights (next (sights first)))
+            (room_there sights trail first e))
+        | inr later ↦ goes_by trail first path next (counted look_limits trail first (sights first)) refl rest later
+      ]
+
   pub to_end_reached : {X : Type 0} (trail : Trail) (asking : LookAsking X) (path : List ℕ)
       → Contains (to_end trail asking) path → Reached trail (looks sights asking) path
   to_end_reached trail (answered value) path held = absurd (contains_none path held)
   to_end_reached trail (ask first next) path held =
-      elim (contains_cases path first
-      (asked_then (limited look_limits sights trail first) (λ found after. to_end after (next found))) held) [
-        | inl same ↦ subst (λ p. Reached trail (first ∷ looks sights (next (sights first))) p) same
-            (reached_now look_limits sights trail first (looks sights (next (sights first))))
-        | inr later ↦ goes_by trail first path next (counted look_limits trail first (sights first)) refl
-            (λ middle rest. to_end_reached middle (next (sights first)) path rest) later
-      ]
+      first_by trail first path next (has_room trail first) refl
+      (λ middle rest. to_end_reached middle (next (sights first)) path rest) held
 
   counts_by : {X : Type 0} (trail there : Trail) (first path : List ℕ) (front : List (List ℕ))
       (next : Option Entry → LookAsking X) (c : Result Trail LimitName)
@@ -65,30 +81,52 @@ module _ (sights : Sights) where
   counts_by trail there first path front next (Ok middle) rest passed = rest middle passed
   counts_by trail there first path front next (Err name) rest passed = absurd (cc)
 
+  -- there was room for a look that passed no limit
+  room_by : (trail there : Trail) (first : List ℕ) (front : List (List ℕ)) (c : Result Trail LimitName)
+      → counted look_limits trail first (sights first) ≡ c
+      → then_ended (told (sights first) trail c) (λ found t. visited look_limits sights t front) ≡ ends tt there
+      → has_room trail first ≡ true
+  room_by trail there first front (Err name) c passed = absurd (cc)
+  room_by trail there first front (Ok middle) c passed =
+      has_room_there sights trail first (room_counted look_limits sights trail middle first c)
+
   never_first : (front back : List (List ℕ)) (path : List ℕ) → [] ≡ front ++ path ∷ back → ⊥
   never_first [] back path e = cc
   never_first (first ∷ front) back path e = cc
 
+  held_by : {X : Type 0} (trail : Trail) (first path : List ℕ) (next : Option Entry → LookAsking X)
+      → has_room trail first ≡ true → Contains (first ∷ behind_first trail first next) path
+      → Contains (to_end trail (ask first next)) path
+  held_by trail first path next room held =
+      subst (λ r. Contains (if r then first ∷ behind_first trail first next else []) path) (sym room) held
+
   held_to_end : {X : Type 0} (trail there : Trail) (asking : LookAsking X) (front back : List (List ℕ)) (path : List ℕ)
       → looks sights asking ≡ front ++ path ∷ back → visited look_limits sights trail front ≡ ends tt there
-      → Contains (to_end trail asking) path
-  held_to_end trail there (answered value) front back path e passed = absurd (never_first front back path e)
-  held_to_end trail there (ask first next) [] back path e passed =
+      → HasRoom look_limits sights there path → Contains (to_end trail asking) path
+  held_to_end trail there (answered value) front back path e passed room = absurd (never_first front back path e)
+  held_to_end trail there (ask first next) [] back path e passed room =
       let same : first ≡ path = cc in
-      subst (λ p. Contains (to_end trail (ask first next)) p) same
-      (contains_here first (asked_then (limited look_limits sights trail first) (λ found after. to_end after (next found))))
-  held_to_end trail there (ask first next) (head ∷ front) back path e passed =
+      let here : trail ≡ there = cc in
+      held_by trail first path next
+      (has_room_there sights trail first
+      (λ many. room ((λ i. counted look_limits (sym here i) (sym same i) (sights (sym same i))) ∙ many)))
+      (subst (λ p. Contains (first ∷ behind_first trail first next) p) same
+      (contains_here first (behind_first trail first next)))
+  held_to_end trail there (ask first next) (head ∷ front) back path e passed room =
       let same : head ≡ first = cc in
       let rest : looks sights (next (sights first)) ≡ front ++ path ∷ back = cc in
-      contains_there path first
-      (asked_then (limited look_limits sights trail first) (λ found after. to_end after (next found)))
+      let goes : visited look_limits sights trail (first ∷ front) ≡ ends tt there =
+      subst (λ p. visited look_limits sights trail (p ∷ front) ≡ ends tt there) same passed in
+      held_by trail first path next
+      (room_by trail there first front (counted look_limits trail first (sights first)) refl goes)
+      (contains_there path first (behind_first trail first next)
       (counts_by trail there first path front next (counted look_limits trail first (sights first))
-      (λ middle more. held_to_end middle there (next (sights first)) front back path rest more)
-      (subst (λ p. visited look_limits sights trail (p ∷ front) ≡ ends tt there) same passed))
+      (λ middle more. held_to_end middle there (next (sights first)) front back path rest more room) goes))
 
   pub reached_to_end : {X : Type 0} (trail : Trail) (asking : LookAsking X) (path : List ℕ)
       → Reached trail (looks sights asking) path → Contains (to_end trail asking) path
-  reached_to_end trail asking path is = held_to_end trail is.before asking is.front is.back path is.split is.passes
+  reached_to_end trail asking path is =
+      held_to_end trail is.before asking is.front is.back path is.split is.passes is.room
 
   -- ---- trails that differ in the paths of the last question alone
 
@@ -114,7 +152,15 @@ module _ (sights : Sights) where
       → Reached one paths path → Reached other paths path
   reached_alike one other paths path same is =
       let found = passes_alike one other is.before is.front same is.passes in
-      record { front = is.front; back = is.back; split = is.split; before = found.later; passes = found.passes }
+      record {
+        front = is.front;
+        back = is.back;
+        split = is.split;
+        before = found.later;
+        passes = found.passes;
+        room = room_there sights found.later path
+            (sym (ap (λ (t : Trail). has_room t path) found.same) ∙ has_room_there sights is.before path is.room);
+      }
 
   -- ---- a walk
 

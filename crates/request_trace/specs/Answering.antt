@@ -4,8 +4,10 @@
 --     all_fresh                     each question is
 --     Keeping                       of which questions an answer is kept, by what stands at each path
 --     all_kept                      none needs to be
---     told_by is_fresh sights       the answers by what stands at each path, the looks of each question up to the one that
---                                   a limit stops, and which are fresh
+--     looked_to_end sights trail asking      the paths at which an asking looks until it ends or a limit stops it; not
+--                                            the one that is a path too many
+--     told_by is_fresh sights       the answers by what stands at each path, the looks of each question until it ends or
+--                                   a limit stops it, and which are fresh
 --     ToldBy is_fresh folder known told      these are the answers so, as far as looks tell
 --     TakesStep is_fresh before question taken spent      no step, or one if the question is fresh, by all that looks
 --                                                         tell
@@ -16,8 +18,9 @@
 --     stays_of lookup steps         the same, where no names stay
 --     answers_of is_fresh keeping stays steps looks      what answers, in this state, behind so many steps
 use Rattle.std.specs.Prelude.{◌≡◌, ◌≤◌, ◌+◌, ℕ, Bool, true, List, [], ◌∷◌, length, filter, Some, Result, Ok, Err}
-use Rattle.std.specs.Prelude.{⊤, IfOk, IfSome}
-use Rattle.tree_spec.specs.LookAskings.{Sights}
+use Rattle.std.specs.Prelude.{⊤, IfOk, IfSome, if◌then◌else◌}
+use Rattle.asking_spec.specs.Askings.{answered, ask}
+use Rattle.tree_spec.specs.LookAskings.{Sights, LookAsking}
 use Rattle.tree_spec.specs.LookLimits.{Trail, begun, look_limits, limited}
 use Rattle.tree_spec.specs.States.{FolderState}
 use Rattle.tree_spec.specs.Trees.{Tree}
@@ -28,8 +31,9 @@ use Rattle.package_lookup.specs.declared.known.Known.{Known}
 use Rattle.package_lookup.specs.Looked.{Sees}
 use Rattle.package_lookup.specs.declared.lookup.Lookup.{Lookup}
 use Rattle.package_lookup.specs.Answered.{State}
+use Rattle.package_lookup.specs.Trails.{has_room}
 use Rattle.package_lookup.specs.Responses.{Response, given, fails, passes, not_read, no_memory, never}
-use Rattle.trace_walk.specs.Meeting.{Told, asked_to_end, AnswererState}
+use Rattle.trace_walk.specs.Meeting.{Told, asked_then, AnswererState}
 
 -- no call comes to `never`
 abbrev pub result_by : {X : Type 0} → Response X → Result X TraceFault
@@ -51,11 +55,19 @@ Keeping = Sights → Question → Type 0
 abbrev pub all_kept : Keeping
 all_kept sights question = ⊤
 
+abbrev pub looked_to_end : {X : Type 0} → Sights → Trail → LookAsking X → List (List ℕ)
+looked_to_end sights trail (answered value) = []
+looked_to_end sights trail (ask path next) =
+    if has_room trail path
+    then path
+    ∷ asked_then (limited look_limits sights trail path) (λ found after. looked_to_end sights after (next found))
+    else []
+
 abbrev pub told_by : Freshness → Sights → Told Trail Question Answer
 told_by is_fresh sights =
     record {
       answers = answers sights;
-      looks = λ trail question. asked_to_end (limited look_limits sights) (begun trail) (put question);
+      looks = λ trail question. looked_to_end sights (begun trail) (put question);
       fresh = is_fresh sights;
       stands = sights;
     }

@@ -20,7 +20,7 @@ use Rattle.trace_spec.specs.Checks.{Gathered}
 use Rattle.trace_spec.specs.Traces.{trace, result_of, traced, generation}
 use Rattle.trace_spec.specs.Laws.{without_question, looks_of, CountsGeneration, StopsGeneration}
 use Rattle.trace_spec.specs.Laws.{LooksAreOfQuestions}
-use Rattle.trace_spec.proofs.LookedPaths.{looked_within, looked_up_to}
+use Rattle.trace_spec.proofs.LookedPaths.{looked_within, looked_up_to, looked_before}
 
 -- ends that differ in the paths of the last question alone
 abbrev pub Alike : {X : Type 0} → LookEnd X → LookEnd X → Type 0
@@ -147,7 +147,13 @@ module _ (sights : Sights) where
         let trails : begun after ≡ begun trail = cc in
         let first = (first_limit_stops look_limits sights no_trail (generation config) name after).0
         (is ∙ ap (λ l. stopped l after) limits) in
-        record { before = after; first = first; same = trails; up_to = looked_up_to sights config name after first }
+        record {
+          before = after;
+          first = first;
+          same = trails;
+          up_to = looked_up_to sights config name after first;
+          before_looks = λ many path is. looked_before sights config name after first path is many;
+        }
 
   result_without : (end : LookEnd (Result Gathered TraceFault)) → result_of (without_question end) ≡ result_of end
   result_without (ends result trail) = refl

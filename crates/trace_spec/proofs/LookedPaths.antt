@@ -1,12 +1,14 @@
 -- The paths at which a trace looks.
 --     looked_within        they are of the generation's footprint
---     looked_up_to         where a limit stops it, they are those up to the look that passes it
-use Rattle.std.proofs.Common.{◌≡◌, ℕ, List, [], ◌∷◌, ◌++◌, Option, Result, Ok, Err, sym, ◌∙◌, subst}
+--     looked_up_to         where a limit stops it, they are of those up to the look that passes it
+--     looked_before        where that is the limit of paths, of those before it
+use Rattle.std.proofs.Common.{◌≡◌, ℕ, List, [], ◌∷◌, ◌++◌, Option, Result, Ok, Err, sym, ap, ◌∙◌, subst, ◌⊎◌, inl, inr}
 use Rattle.std.specs.Prelude.{Contains}
-use Rattle.std.proofs.lemmas.List.Elements.{Contains-append_right}
+use Rattle.std.proofs.lemmas.List.Elements.{Contains-append_left, Contains-append_right}
 use Rattle.asking_spec.specs.Evaluation.{ends, then_ended}
 use Rattle.tree_spec.specs.declared.Entry.{Entry}
 use Rattle.tree_spec.specs.declared.LimitName.{LimitName}
+use Rattle.tree_spec.specs.declared.LimitName.TheVariants.{Looks}
 use Rattle.tree_spec.specs.LookAskings.{Sights, looks, footprint}
 use Rattle.tree_spec.specs.LookLimits.{Trail, no_trail, look_limits, counted, told, IsFirstLimit}
 use Rattle.tree_spec.proofs.Contained.{contains_here, contains_there, footprint_contains}
@@ -38,35 +40,55 @@ goes_by found trail (Ok middle) one other there before P passed went go = go mid
 goes_by found trail (Err name) one other there before P passed went go = absurd (cc)
 
 module _ (sights : Sights) where
-  up_to : (trail : Trail) (path last : List ℕ) (some back front rest : List (List ℕ)) (there before : Trail)
+  -- it stands before the look that passes a limit, or it is that look
+  stands : (trail : Trail) (path last : List ℕ) (some back front rest : List (List ℕ)) (there before : Trail)
       (name : LimitName) → some ++ path ∷ back ≡ front ++ last ∷ rest
       → visited look_limits sights trail some ≡ ends tt there → visited look_limits sights trail front ≡ ends tt before
-      → counted look_limits before last (sights last) ≡ Err name → Contains (front ++ last ∷ []) path
-  up_to trail path last [] back [] rest there before name e passed went limit =
+      → counted look_limits before last (sights last) ≡ Err name
+      → Contains front path ⊎ ((last ≡ path) × (there ≡ before))
+  stands trail path last [] back [] rest there before name e passed went limit =
       let same : last ≡ path = cc in
-      subst (λ p. Contains (last ∷ []) p) same (contains_here last [])
-  up_to trail path last [] back (first ∷ front) rest there before name e passed went limit =
+      let here : there ≡ before = cc in
+      inr (same, here)
+  stands trail path last [] back (first ∷ front) rest there before name e passed went limit =
       let same : first ≡ path = cc in
-      subst (λ p. Contains (first ∷ (front ++ last ∷ [])) p) same (contains_here first (front ++ last ∷ []))
-  up_to trail path last (head ∷ some) back [] rest there before name e passed went limit =
+      inl (subst (λ p. Contains (first ∷ front) p) same (contains_here first front))
+  stands trail path last (head ∷ some) back [] rest there before name e passed went limit =
       let same : head ≡ last = cc in
       let here : trail ≡ before = cc in
       absurd (stops_by (sights head) trail (counted look_limits trail head (sights head)) name
       (λ found t. visited look_limits sights t some) there
       ((λ i. counted look_limits (here i) (same i) (sights (same i))) ∙ limit) passed)
-  up_to trail path last (head ∷ some) back (first ∷ front) rest there before name e passed went limit =
+  stands trail path last (head ∷ some) back (first ∷ front) rest there before name e passed went limit =
       let same : head ≡ first = cc in
       let more : some ++ path ∷ back ≡ front ++ last ∷ rest = cc in
       goes_by (sights head) trail (counted look_limits trail head (sights head))
       (λ found t. visited look_limits sights t some) (λ found t. visited look_limits sights t front) there before
-      (Contains (first ∷ (front ++ last ∷ [])) path) passed
+      (Contains (first ∷ front) path ⊎ ((last ≡ path) × (there ≡ before))) passed
       (subst (λ p. visited look_limits sights trail (p ∷ front) ≡ ends tt before) (sym same) went)
-      (λ middle one other. contains_there path first (front ++ last ∷ [])
-      (up_to middle path last some back front rest there before name more one other limit))
+      (λ middle one other. elim (stands middle path last some back front rest there before name more one other limit) [
+        | inl ahead ↦ inl (contains_there path first front ahead)
+        | inr is ↦ inr is
+      ])
 
-  pub looked_up_to : (config : Config) (name : LimitName) (before : Trail)
+  module _ (config : Config) (name : LimitName) (before : Trail)
       (first : IsFirstLimit look_limits sights no_trail (looks sights (generation config)) name before)
-      (path : List ℕ) → IsLookedAt sights config path → Contains (first.front ++ first.path ∷ []) path
-  looked_up_to config name before first path is =
-      up_to no_trail path first.path is.front is.back first.front first.back is.before before name
-      (sym is.split ∙ first.split) is.passes first.passes first.limit
+      (path : List ℕ) (is : IsLookedAt sights config path) where
+    stands_there : Contains first.front path ⊎ ((first.path ≡ path) × (is.before ≡ before))
+    stands_there =
+        stands no_trail path first.path is.front is.back first.front first.back is.before before name
+        (sym is.split ∙ first.split) is.passes first.passes first.limit
+
+    pub looked_up_to : Contains (first.front ++ first.path ∷ []) path
+    looked_up_to = elim stands_there [
+      | inl ahead ↦ Contains-append_left first.front (first.path ∷ []) path ahead
+      | inr last ↦ Contains-append_right first.front (first.path ∷ []) path
+          (subst (λ p. Contains (first.path ∷ []) p) last.0 (contains_here first.path []))
+    ]
+
+    pub looked_before : name ≡ Looks → Contains first.front path
+    looked_before many = elim stands_there [
+      | inl ahead ↦ ahead
+      | inr last ↦ absurd (is.room
+          ((λ i. counted look_limits (last.1 i) (sym last.0 i) (sights (sym last.0 i))) ∙ (first.limit ∙ ap Err many)))
+    ]

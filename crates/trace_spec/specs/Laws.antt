@@ -10,9 +10,10 @@ use Rattle.tree_spec.specs.FoldersAbove.{folder_of}
 use Rattle.tree_spec.specs.Laws.{IsSameAsking}
 use Rattle.tree_spec.specs.declared.LimitName.{LimitName}
 use Rattle.tree_spec.specs.declared.LimitName.TheVariants.{Modules, Requests, Brackets, ModuleRequests, Specifier}
+use Rattle.tree_spec.specs.declared.LimitName.TheVariants.{Looks}
 use Rattle.tree_spec.specs.Limits.{limit_number}
 use Rattle.tree_spec.specs.LookAskings.{Sights, look_at_each, looks, footprint}
-use Rattle.tree_spec.specs.LookLimits.{Trail, no_trail, begun, look_limits, limited, IsFirstLimit, new_size}
+use Rattle.tree_spec.specs.LookLimits.{Trail, no_trail, begun, look_limits, counted, limited, IsFirstLimit, new_size}
 use Rattle.url_spec.specs.Specifiers.{is_relative, ends_in_slash, as_url, normalized}
 use Rattle.module_spec.specs.declared.request.Request.{Request}
 use Rattle.module_spec.specs.Outlines.{Outline, ReadsOutline, most_requests}
@@ -473,14 +474,16 @@ without_question (stopped limit trail) = stopped limit (begun trail)
 abbrev pub looks_of : Sights → List Question → List (List ℕ)
 looks_of sights asked = flat_map (λ question. looks sights (put question)) asked
 
--- own: one of the generation's looks is at the path, and those before it pass no limit, whether the trace is refused or
--- not; so none is behind the look at which a limit stops it
+-- own: one of the generation's looks is at the path, those before it pass no limit, and it isn't refused as one path
+-- too many, before it is made, whether the trace is refused or not; so none is behind the look at which a limit stops
+-- it, and where that is the limit of paths, neither is that look
 pub record IsLookedAt (sights : Sights) (config : Config) (path : List ℕ) : Type 0 where
   pub front : List (List ℕ)
   pub back : List (List ℕ)
   pub split : looks sights (generation config) ≡ front ++ path ∷ back
   pub before : Trail
   pub passes : evaluated (limited look_limits sights) no_trail (look_at_each front) ≡ ends tt before
+  pub room : counted look_limits before path (sights path) ≢ Err Looks
 
 -- the trail has counted the looks of a generation
 pub record CountsGeneration (sights : Sights) (config : Config) (trail : Trail) : Type 0 where
@@ -488,12 +491,13 @@ pub record CountsGeneration (sights : Sights) (config : Config) (trail : Trail) 
   pub size : trail.size ≡ new_size sights [] (looks sights (generation config))
 
 -- of the looks of a generation, one is the first to pass a limit, this is the trail before it, and its trace looks at no
--- path but those up to that look
+-- path but those up to that look; where that is the limit of paths, at none but those before it
 pub record StopsGeneration (sights : Sights) (config : Config) (name : LimitName) (trail : Trail) : Type 0 where
   pub before : Trail
   pub first : IsFirstLimit look_limits sights no_trail (looks sights (generation config)) name before
   pub same : begun before ≡ begun trail
   pub up_to : (path : List ℕ) → IsLookedAt sights config path → Contains (first.front ++ first.path ∷ []) path
+  pub before_looks : name ≡ Looks → (path : List ℕ) → IsLookedAt sights config path → Contains first.front path
 
 -- a generation looks at what its questions look at; its limits are those of these looks; what stands at the paths of
 -- its footprint decides it; and what its trace looks at is of that

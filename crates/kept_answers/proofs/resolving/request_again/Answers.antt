@@ -1,14 +1,19 @@
-use Rattle.std.proofs.Common.{Some, Ok, refl, ap, ◌∙◌}
-use Rattle.package_lookup.specs.Lookups.{begun_of, state_of}
+use Rattle.std.proofs.Common.{Some, Ok, refl, sym, ap, ◌∙◌, subst}
+use Rattle.package_lookup.specs.Lookups.{state_of}
+use Rattle.package_lookup.specs.Responses.{given, fails, no_memory}
+use Rattle.tree_spec.proofs.ToldStates.{if_all}
 use Rattle.package_lookup.proofs.Questions.{given_as}
-use Rattle.kept_answers.proofs.Certifying.{kept_looks, given_again, failed_again, behind_looks, lost, seen_again, seen_other, failing_of, to_failing, node_failing}
+use Rattle.kept_answers.proofs.Certifying.{lost, seen_again, seen_other, failing_of, to_failing, node_failing}
+use Rattle.kept_answers.proofs.RightAnswers.{given_if, failed_if, behind_if, if_mapped}
+use Rattle.kept_answers.specs.KnownLooks.{afresh}
+use Rattle.kept_answers.specs.Tables.{IsRequestOf}
 use Rattle.node_resolve.specs.declared.fault.NodeFault.TheVariants.{Memory}
 use Rattle.node_resolve.specs.Places.{module_of}
-use Rattle.node_resolve.specs.Responses.{responded}
+use Rattle.node_resolve.specs.Responses.{responded, by_node_fault}
 use Rattle.node_spec.specs.EsmResolve.{node}
 use Rattle.kept_answers.proofs.FreshSteps.{none_taken, other_again, other_taken}
 use Rattle.kept_answers.proofs.SharedFootprints.{no_footprint, footprint_again, footprint_behind}
-use Rattle.kept_answers.proofs.RequestLemmas.{is_kept}
+use Rattle.kept_answers.proofs.RequestLemmas.{kept_so}
 use Rattle.kept_answers.specs.Entries.{is_request}
 use Rattle.kept_answers.specs.Freshness.{request_looks}
 use Rattle.kept_answers.proofs.SeenNow.{found_before, stays_before, again_now, stays_as, stays_put, now_put, same_request}
@@ -16,66 +21,57 @@ use Rattle.kept_answers.proofs.resolving.request_again.Goals as goal
 
 pub returns-in-Err-clause-answered : goal.returns-in-Err-clause-answered
 returns-in-Err-clause-answered g c =
-    node_failing (begun_of g.F.Folder.state c.args.lookup.now)
-    (state_of g.F.Folder.state c.look_again.new.lookup)
-    (node c.args.request.now.conditions.now c.args.request.now.parent.now c.args.request.now.specifier.now) c.in-Err.fault c.fault_of.result
-    c.fault_of.ensures
-    (failed_again (node c.args.request.now.conditions.now c.args.request.now.parent.now c.args.request.now.specifier.now) (Ok (module_of c.args.found.now.found.value))
-    c.as_slice.result.now (state_of g.F.Folder.state c.args.lookup.now)
-    (kept_looks (g.F.Folder.state c.args.lookup.now.folder.now).holds
-    (node c.args.request.now.conditions.now c.args.request.now.parent.now c.args.request.now.specifier.now) (Ok (module_of c.args.found.now.found.value))
-    c.args.found.now.looks.value c.as_slice.result.now (c.as_slice.ensures ∙ c.deref.ensures)
-    (is_kept (g.F.Folder.state c.args.lookup.now.folder.now).holds c.args.request.now.conditions.now c.args.request.now.conditions.now c.args.request.now.parent.now
-    c.args.request.now.specifier.now c.args.key c.args.found.now refl c.requires.key c.requires.right))
-    (failing_of c.in-Err.fault) (state_of g.F.Folder.state c.look_again.new.lookup)
-    (to_failing (state_of g.F.Folder.state c.args.lookup.now)
-    (state_of g.F.Folder.state c.look_again.new.lookup) c.as_slice.result.now c.in-Err.fault c.in-Err.ensures.again))
+    let before = state_of g.F.Folder.state c.args.lookup.now in
+    let after = state_of g.F.Folder.state c.look_again.new.lookup in
+    let asking = node c.args.request.now.conditions.now c.args.request.now.parent.now c.args.request.now.specifier.now in
+    if_mapped (IsRequestOf c.args.request.now.conditions.now c.args.key c.args.found.now) (afresh before) after asking asking
+    (fails (failing_of c.in-Err.fault)) (by_node_fault c.fault_of.result)
+    (λ from to. node_failing from to asking c.in-Err.fault c.fault_of.result c.fault_of.ensures)
+    (failed_if asking (Ok (module_of c.args.found.now.found.value)) c.as_slice.result.now before
+    (IsRequestOf c.args.request.now.conditions.now c.args.key c.args.found.now)
+    (kept_so c.args.request.now.conditions.now c.args.request.now.parent.now c.args.request.now.specifier.now c.args.key
+    c.args.found.now c.as_slice.result.now (c.as_slice.ensures ∙ c.deref.ensures) c.requires.key) (failing_of c.in-Err.fault) after
+    (to_failing before after c.as_slice.result.now c.in-Err.fault c.in-Err.ensures.again))
 
 pub returns-in-Err-keep_again-clause-answered : goal.returns-in-Err-keep_again-clause-answered
 returns-in-Err-keep_again-clause-answered g c =
-    lost (begun_of g.F.Folder.state c.args.lookup.now)
-    (state_of g.F.Folder.state c.look_again.new.lookup)
-    (node c.args.request.now.conditions.now c.args.request.now.parent.now c.args.request.now.specifier.now) (Ok (module_of c.args.found.now.found.value))
-    (given_again (node c.args.request.now.conditions.now c.args.request.now.parent.now c.args.request.now.specifier.now) (Ok (module_of c.args.found.now.found.value))
-    c.as_slice.result.now (state_of g.F.Folder.state c.args.lookup.now)
-    (kept_looks (g.F.Folder.state c.args.lookup.now.folder.now).holds
-    (node c.args.request.now.conditions.now c.args.request.now.parent.now c.args.request.now.specifier.now) (Ok (module_of c.args.found.now.found.value))
-    c.args.found.now.looks.value c.as_slice.result.now (c.as_slice.ensures ∙ c.deref.ensures)
-    (is_kept (g.F.Folder.state c.args.lookup.now.folder.now).holds c.args.request.now.conditions.now c.args.request.now.conditions.now c.args.request.now.parent.now
-    c.args.request.now.specifier.now c.args.key c.args.found.now refl c.requires.key c.requires.right))
-    (state_of g.F.Folder.state c.look_again.new.lookup)
-    (seen_again (state_of g.F.Folder.state c.args.lookup.now)
-    (state_of g.F.Folder.state c.look_again.new.lookup) c.as_slice.result.now c.in-Ok-true.field-0 c.in-Ok-true.field-0-test c.in-Ok-true.ensures.again))
+    let before = state_of g.F.Folder.state c.args.lookup.now in
+    let after = state_of g.F.Folder.state c.look_again.new.lookup in
+    let asking = node c.args.request.now.conditions.now c.args.request.now.parent.now c.args.request.now.specifier.now in
+    if_mapped (IsRequestOf c.args.request.now.conditions.now c.args.key c.args.found.now) (afresh before) after asking asking
+    (given (Ok (module_of c.args.found.now.found.value))) (fails no_memory)
+    (λ from to. lost from to asking (Ok (module_of c.args.found.now.found.value)))
+    (given_if asking (Ok (module_of c.args.found.now.found.value)) c.as_slice.result.now before
+    (IsRequestOf c.args.request.now.conditions.now c.args.key c.args.found.now)
+    (kept_so c.args.request.now.conditions.now c.args.request.now.parent.now c.args.request.now.specifier.now c.args.key
+    c.args.found.now c.as_slice.result.now (c.as_slice.ensures ∙ c.deref.ensures) c.requires.key) after
+    (seen_again before after c.as_slice.result.now c.in-Ok-true.field-0 c.in-Ok-true.field-0-test c.in-Ok-true.ensures.again))
 
 pub returns-in-Ok-clause-answered : goal.returns-in-Ok-clause-answered
 returns-in-Ok-clause-answered g c =
-    given_as (begun_of g.F.Folder.state c.args.lookup.now)
-    (state_of g.F.Folder.state c.look_again.new.lookup)
-    (node c.args.request.now.conditions.now c.args.request.now.parent.now c.args.request.now.specifier.now) (Ok (module_of c.args.found.now.found.value))
-    (Ok (module_of c.in-Ok.own.value)) (ap (λ f. Ok (module_of f)) c.in-Ok.ensures.found)
-    (given_again (node c.args.request.now.conditions.now c.args.request.now.parent.now c.args.request.now.specifier.now) (Ok (module_of c.args.found.now.found.value))
-    c.as_slice.result.now (state_of g.F.Folder.state c.args.lookup.now)
-    (kept_looks (g.F.Folder.state c.args.lookup.now.folder.now).holds
-    (node c.args.request.now.conditions.now c.args.request.now.parent.now c.args.request.now.specifier.now) (Ok (module_of c.args.found.now.found.value))
-    c.args.found.now.looks.value c.as_slice.result.now (c.as_slice.ensures ∙ c.deref.ensures)
-    (is_kept (g.F.Folder.state c.args.lookup.now.folder.now).holds c.args.request.now.conditions.now c.args.request.now.conditions.now c.args.request.now.parent.now
-    c.args.request.now.specifier.now c.args.key c.args.found.now refl c.requires.key c.requires.right))
-    (state_of g.F.Folder.state c.look_again.new.lookup)
-    (seen_again (state_of g.F.Folder.state c.args.lookup.now)
-    (state_of g.F.Folder.state c.look_again.new.lookup) c.as_slice.result.now c.in-Ok-true.field-0 c.in-Ok-true.field-0-test c.in-Ok-true.ensures.again))
+    let before = state_of g.F.Folder.state c.args.lookup.now in
+    let after = state_of g.F.Folder.state c.look_again.new.lookup in
+    let asking = node c.args.request.now.conditions.now c.args.request.now.parent.now c.args.request.now.specifier.now in
+    if_mapped (IsRequestOf c.args.request.now.conditions.now c.args.key c.args.found.now) (afresh before) after asking asking
+    (given (Ok (module_of c.args.found.now.found.value))) (given (Ok (module_of c.in-Ok.own.value)))
+    (λ from to. given_as from to asking (Ok (module_of c.args.found.now.found.value)) (Ok (module_of c.in-Ok.own.value))
+    (ap (λ f. Ok (module_of f)) c.in-Ok.ensures.found))
+    (given_if asking (Ok (module_of c.args.found.now.found.value)) c.as_slice.result.now before
+    (IsRequestOf c.args.request.now.conditions.now c.args.key c.args.found.now)
+    (kept_so c.args.request.now.conditions.now c.args.request.now.parent.now c.args.request.now.specifier.now c.args.key
+    c.args.found.now c.as_slice.result.now (c.as_slice.ensures ∙ c.deref.ensures) c.requires.key) after
+    (seen_again before after c.as_slice.result.now c.in-Ok-true.field-0 c.in-Ok-true.field-0-test c.in-Ok-true.ensures.again))
 
 pub returns-in-Ok-false-clause-answered : goal.returns-in-Ok-false-clause-answered
 returns-in-Ok-false-clause-answered g c =
-    behind_looks (node c.args.request.now.conditions.now c.args.request.now.parent.now c.args.request.now.specifier.now) (Ok (module_of c.args.found.now.found.value))
-    c.as_slice.result.now (state_of g.F.Folder.state c.args.lookup.now)
-    (kept_looks (g.F.Folder.state c.args.lookup.now.folder.now).holds
-    (node c.args.request.now.conditions.now c.args.request.now.parent.now c.args.request.now.specifier.now) (Ok (module_of c.args.found.now.found.value))
-    c.args.found.now.looks.value c.as_slice.result.now (c.as_slice.ensures ∙ c.deref.ensures)
-    (is_kept (g.F.Folder.state c.args.lookup.now.folder.now).holds c.args.request.now.conditions.now c.args.request.now.conditions.now c.args.request.now.parent.now
-    c.args.request.now.specifier.now c.args.key c.args.found.now refl c.requires.key c.requires.right))
-    (state_of g.F.Folder.state c.look_again.new.lookup)
-    (seen_other (state_of g.F.Folder.state c.args.lookup.now)
-    (state_of g.F.Folder.state c.look_again.new.lookup) c.as_slice.result.now c.in-Ok-false.field-0 c.in-Ok-false.field-0-test c.in-Ok-false.ensures.again)
+    let before = state_of g.F.Folder.state c.args.lookup.now in
+    let middle = state_of g.F.Folder.state c.look_again.new.lookup in
+    let asking = node c.args.request.now.conditions.now c.args.request.now.parent.now c.args.request.now.specifier.now in
+    behind_if asking (Ok (module_of c.args.found.now.found.value)) c.as_slice.result.now before
+    (IsRequestOf c.args.request.now.conditions.now c.args.key c.args.found.now)
+    (kept_so c.args.request.now.conditions.now c.args.request.now.parent.now c.args.request.now.specifier.now c.args.key
+    c.args.found.now c.as_slice.result.now (c.as_slice.ensures ∙ c.deref.ensures) c.requires.key) middle
+    (seen_other before middle c.as_slice.result.now c.in-Ok-false.field-0 c.in-Ok-false.field-0-test c.in-Ok-false.ensures.again)
     (responded (λ found. module_of found.value) c.request_anew.result)
     (state_of g.F.Folder.state c.request_anew.new.lookup) c.request_anew.ensures.answered
 
@@ -104,21 +100,22 @@ returns-in-Ok-false-clause-fresh g c =
     c.request_anew.ensures.cost
 
 pub returns-in-Ok-clause-footprint : goal.returns-in-Ok-clause-footprint
-returns-in-Ok-clause-footprint g c =
+returns-in-Ok-clause-footprint g c = λ right.
     footprint_again (state_of g.F.Folder.state c.args.lookup.now)
     (state_of g.F.Folder.state c.look_again.new.lookup)
     c.args.request.now.conditions.now c.args.request.now.parent.now c.args.request.now.specifier.now c.args.key c.args.found.now c.as_slice.result.now
-    c.in-Ok.own (c.as_slice.ensures ∙ c.deref.ensures) c.requires.key c.in-Ok.ensures.found c.requires.right
+    c.in-Ok.own (c.as_slice.ensures ∙ c.deref.ensures) c.requires.key c.in-Ok.ensures.found
+    (if_all (g.F.Folder.state c.args.lookup.now.folder.now).holds (λ tree. right))
     (seen_again (state_of g.F.Folder.state c.args.lookup.now)
     (state_of g.F.Folder.state c.look_again.new.lookup) c.as_slice.result.now c.in-Ok-true.field-0 c.in-Ok-true.field-0-test c.in-Ok-true.ensures.again)
 
 pub returns-in-Err-clause-footprint : goal.returns-in-Err-clause-footprint
-returns-in-Err-clause-footprint g c =
+returns-in-Err-clause-footprint g c = λ right.
     no_footprint (g.F.Folder.state c.args.lookup.now.folder.now) c.args.lookup.now.known.now
     (node c.args.request.now.conditions.now c.args.request.now.parent.now c.args.request.now.specifier.now) c.fault_of.result
 
 pub returns-in-Err-keep_again-clause-footprint : goal.returns-in-Err-keep_again-clause-footprint
-returns-in-Err-keep_again-clause-footprint g c =
+returns-in-Err-keep_again-clause-footprint g c = λ right.
     no_footprint (g.F.Folder.state c.args.lookup.now.folder.now) c.args.lookup.now.known.now
     (node c.args.request.now.conditions.now c.args.request.now.parent.now c.args.request.now.specifier.now) Memory
 
@@ -159,9 +156,21 @@ returns-in-Ok-false-clause-still g c =
     λ other. stays_before (state_of g.F.Folder.state c.args.lookup.now) (state_of g.F.Folder.state c.look_again.new.lookup) _ to.answered _ _ (c.request_anew.ensures.still other)
 
 pub returns-in-Ok-false-clause-footprint : goal.returns-in-Ok-false-clause-footprint
-returns-in-Ok-false-clause-footprint g c =
+returns-in-Ok-false-clause-footprint g c = λ right.
     let to = (seen_other (state_of g.F.Folder.state c.args.lookup.now)
     (state_of g.F.Folder.state c.look_again.new.lookup) c.as_slice.result.now c.in-Ok-false.field-0 c.in-Ok-false.field-0-test c.in-Ok-false.ensures.again) in
     footprint_behind (state_of g.F.Folder.state c.args.lookup.now) (state_of g.F.Folder.state c.look_again.new.lookup) _
     (node c.args.request.now.conditions.now c.args.request.now.parent.now c.args.request.now.specifier.now)
     c.request_anew.result to.answered c.request_anew.ensures.footprint
+
+pub returns-in-Err-keep_again-clause-right : goal.returns-in-Err-keep_again-clause-right
+returns-in-Err-keep_again-clause-right g c =
+    if_all (g.F.Folder.state c.args.lookup.now.folder.now).holds
+    (λ tree of. c.keep_again.ensures.right
+    (subst (λ cs. IsRequestOf cs c.args.key c.args.found.now) (sym c.requires.next) of))
+
+pub returns-in-Ok-clause-right : goal.returns-in-Ok-clause-right
+returns-in-Ok-clause-right g c =
+    if_all (g.F.Folder.state c.args.lookup.now.folder.now).holds
+    (λ tree of. c.keep_again.ensures.right
+    (subst (λ cs. IsRequestOf cs c.args.key c.args.found.now) (sym c.requires.next) of))

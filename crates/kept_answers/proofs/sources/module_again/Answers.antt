@@ -1,13 +1,16 @@
 use Rattle.std.proofs.Common.{Some, Ok, refl, ap}
-use Rattle.package_lookup.specs.Lookups.{begun_of, state_of}
-use Rattle.package_lookup.specs.Responses.{looked}
+use Rattle.package_lookup.specs.Lookups.{state_of}
+use Rattle.package_lookup.specs.Responses.{looked, given, fails, never, no_memory, by_fault}
 use Rattle.package_lookup.proofs.Questions.{given_as}
-use Rattle.kept_answers.proofs.Certifying.{kept_looks, given_again, failed_again, behind_looks, lost, seen_again, seen_other, failing_of, to_failing, by_failing}
+use Rattle.kept_answers.proofs.Certifying.{lost, seen_again, seen_other, failing_of, to_failing, by_failing}
+use Rattle.kept_answers.proofs.RightAnswers.{given_if, failed_if, behind_if, if_mapped}
+use Rattle.kept_answers.specs.KnownLooks.{afresh}
+use Rattle.kept_answers.specs.Tables.{IsModuleOf}
 use Rattle.module_sources.specs.Shown.{source_in, source_of}
 use Rattle.trace_spec.specs.Questions.{module_source}
 use Rattle.kept_answers.specs.Entries.{source_seen}
 use Rattle.kept_answers.proofs.FreshSteps.{none_taken, other_again, other_taken}
-use Rattle.kept_answers.proofs.ModuleLemmas.{is_kept}
+use Rattle.kept_answers.proofs.ModuleLemmas.{kept_so}
 use Rattle.std.specs.Prelude.{bytes_eq}
 use Rattle.kept_answers.specs.Freshness.{module_looks}
 use Rattle.kept_answers.proofs.SeenNow.{source_before, stays_before, again_now, stays_as, stays_put, now_put, same_path}
@@ -15,57 +18,47 @@ use Rattle.kept_answers.proofs.sources.module_again.Goals as goal
 
 pub returns-in-Err-clause-answered : goal.returns-in-Err-clause-answered
 returns-in-Err-clause-answered g c =
-    by_failing (begun_of g.F.Folder.state c.args.lookup.now)
-    (state_of g.F.Folder.state c.look_again.new.lookup)
-    (module_source c.args.path.now) c.in-Err.fault
-    (failed_again (module_source c.args.path.now) (Ok (source_seen c.args.found.now)) c.looks.result.now
-    (state_of g.F.Folder.state c.args.lookup.now)
-    (kept_looks (g.F.Folder.state c.args.lookup.now.folder.now).holds (module_source c.args.path.now) (Ok (source_seen c.args.found.now))
-    c.args.found.now.looks c.looks.result.now c.looks.ensures
-    (is_kept (g.F.Folder.state c.args.lookup.now.folder.now).holds c.args.path.now c.args.found.now c.requires.right))
-    (failing_of c.in-Err.fault) (state_of g.F.Folder.state c.look_again.new.lookup)
-    (to_failing (state_of g.F.Folder.state c.args.lookup.now)
-    (state_of g.F.Folder.state c.look_again.new.lookup) c.looks.result.now c.in-Err.fault c.in-Err.ensures.again))
+    let before = state_of g.F.Folder.state c.args.lookup.now in
+    let after = state_of g.F.Folder.state c.look_again.new.lookup in
+    let asking = module_source c.args.path.now in
+    if_mapped (IsModuleOf c.args.path.now c.args.found.now) (afresh before) after asking asking
+    (fails (failing_of c.in-Err.fault)) (by_fault (fails never) (fails never) c.in-Err.fault)
+    (λ from to. by_failing from to asking c.in-Err.fault)
+    (failed_if asking (Ok (source_seen c.args.found.now)) c.looks.result.now before (IsModuleOf c.args.path.now c.args.found.now)
+    (kept_so c.args.path.now c.args.found.now c.looks.result.now c.looks.ensures) (failing_of c.in-Err.fault) after
+    (to_failing before after c.looks.result.now c.in-Err.fault c.in-Err.ensures.again))
 
 pub returns-in-Err-keep_again-clause-answered : goal.returns-in-Err-keep_again-clause-answered
 returns-in-Err-keep_again-clause-answered g c =
-    lost (begun_of g.F.Folder.state c.args.lookup.now)
-    (state_of g.F.Folder.state c.look_again.new.lookup)
-    (module_source c.args.path.now) (Ok (source_seen c.args.found.now))
-    (given_again (module_source c.args.path.now) (Ok (source_seen c.args.found.now)) c.looks.result.now
-    (state_of g.F.Folder.state c.args.lookup.now)
-    (kept_looks (g.F.Folder.state c.args.lookup.now.folder.now).holds (module_source c.args.path.now) (Ok (source_seen c.args.found.now))
-    c.args.found.now.looks c.looks.result.now c.looks.ensures
-    (is_kept (g.F.Folder.state c.args.lookup.now.folder.now).holds c.args.path.now c.args.found.now c.requires.right))
-    (state_of g.F.Folder.state c.look_again.new.lookup)
-    (seen_again (state_of g.F.Folder.state c.args.lookup.now)
-    (state_of g.F.Folder.state c.look_again.new.lookup) c.looks.result.now c.in-Ok-true.field-0 c.in-Ok-true.field-0-test c.in-Ok-true.ensures.again))
+    let before = state_of g.F.Folder.state c.args.lookup.now in
+    let after = state_of g.F.Folder.state c.look_again.new.lookup in
+    let asking = module_source c.args.path.now in
+    if_mapped (IsModuleOf c.args.path.now c.args.found.now) (afresh before) after asking asking (given (Ok (source_seen c.args.found.now)))
+    (fails no_memory) (λ from to. lost from to asking (Ok (source_seen c.args.found.now)))
+    (given_if asking (Ok (source_seen c.args.found.now)) c.looks.result.now before (IsModuleOf c.args.path.now c.args.found.now)
+    (kept_so c.args.path.now c.args.found.now c.looks.result.now c.looks.ensures) after
+    (seen_again before after c.looks.result.now c.in-Ok-true.field-0 c.in-Ok-true.field-0-test c.in-Ok-true.ensures.again))
 
 pub returns-in-Ok-clause-answered : goal.returns-in-Ok-clause-answered
 returns-in-Ok-clause-answered g c =
-    given_as (begun_of g.F.Folder.state c.args.lookup.now)
-    (state_of g.F.Folder.state c.look_again.new.lookup)
-    (module_source c.args.path.now) (Ok (source_seen c.args.found.now)) (Ok (source_of c.in-Ok.source))
-    (ap Ok c.in-Ok.ensures.source)
-    (given_again (module_source c.args.path.now) (Ok (source_seen c.args.found.now)) c.looks.result.now
-    (state_of g.F.Folder.state c.args.lookup.now)
-    (kept_looks (g.F.Folder.state c.args.lookup.now.folder.now).holds (module_source c.args.path.now) (Ok (source_seen c.args.found.now))
-    c.args.found.now.looks c.looks.result.now c.looks.ensures
-    (is_kept (g.F.Folder.state c.args.lookup.now.folder.now).holds c.args.path.now c.args.found.now c.requires.right))
-    (state_of g.F.Folder.state c.look_again.new.lookup)
-    (seen_again (state_of g.F.Folder.state c.args.lookup.now)
-    (state_of g.F.Folder.state c.look_again.new.lookup) c.looks.result.now c.in-Ok-true.field-0 c.in-Ok-true.field-0-test c.in-Ok-true.ensures.again))
+    let before = state_of g.F.Folder.state c.args.lookup.now in
+    let after = state_of g.F.Folder.state c.look_again.new.lookup in
+    let asking = module_source c.args.path.now in
+    if_mapped (IsModuleOf c.args.path.now c.args.found.now) (afresh before) after asking asking (given (Ok (source_seen c.args.found.now)))
+    (given (Ok (source_of c.in-Ok.source)))
+    (λ from to. given_as from to asking (Ok (source_seen c.args.found.now)) (Ok (source_of c.in-Ok.source)) (ap Ok c.in-Ok.ensures.source))
+    (given_if asking (Ok (source_seen c.args.found.now)) c.looks.result.now before (IsModuleOf c.args.path.now c.args.found.now)
+    (kept_so c.args.path.now c.args.found.now c.looks.result.now c.looks.ensures) after
+    (seen_again before after c.looks.result.now c.in-Ok-true.field-0 c.in-Ok-true.field-0-test c.in-Ok-true.ensures.again))
 
 pub returns-in-Ok-false-clause-answered : goal.returns-in-Ok-false-clause-answered
 returns-in-Ok-false-clause-answered g c =
-    behind_looks (module_source c.args.path.now) (Ok (source_seen c.args.found.now)) c.looks.result.now
-    (state_of g.F.Folder.state c.args.lookup.now)
-    (kept_looks (g.F.Folder.state c.args.lookup.now.folder.now).holds (module_source c.args.path.now) (Ok (source_seen c.args.found.now))
-    c.args.found.now.looks c.looks.result.now c.looks.ensures
-    (is_kept (g.F.Folder.state c.args.lookup.now.folder.now).holds c.args.path.now c.args.found.now c.requires.right))
-    (state_of g.F.Folder.state c.look_again.new.lookup)
-    (seen_other (state_of g.F.Folder.state c.args.lookup.now)
-    (state_of g.F.Folder.state c.look_again.new.lookup) c.looks.result.now c.in-Ok-false.field-0 c.in-Ok-false.field-0-test c.in-Ok-false.ensures.again)
+    let before = state_of g.F.Folder.state c.args.lookup.now in
+    let middle = state_of g.F.Folder.state c.look_again.new.lookup in
+    behind_if (module_source c.args.path.now) (Ok (source_seen c.args.found.now)) c.looks.result.now before
+    (IsModuleOf c.args.path.now c.args.found.now)
+    (kept_so c.args.path.now c.args.found.now c.looks.result.now c.looks.ensures) middle
+    (seen_other before middle c.looks.result.now c.in-Ok-false.field-0 c.in-Ok-false.field-0-test c.in-Ok-false.ensures.again)
     (looked source_in c.module_anew.result)
     (state_of g.F.Folder.state c.module_anew.new.lookup) c.module_anew.ensures.answered
 

@@ -3,18 +3,17 @@ use Rattle.ordered_json.specs.Shown.{json_of}
 use Rattle.ordered_json.proofs.ShownLemmas.{json_of_list, json_of_object, json_of_text}
 use Rattle.package_lookup.specs.Responses.{itself}
 use Rattle.node_resolve.proofs.Answering.{gives_as}
-use Rattle.node_resolve.proofs.MemberLemmas.{distinct_in}
 use Rattle.node_resolve.proofs.ValueLemmas.{main_text, main_list, main_dotted, main_plain}
 use Rattle.node_resolve.proofs.package_exports_resolve.main_export.Goals as goal
 
 pub returns-in-Text : goal.returns-in-Text
 returns-in-Text c =
-    gives_as itself _ _ c.export_target.result (main_text c.args.conditions.now c.args.package_folder.now (json_of c.args.exports.now.value) _ (ap json_of c.in-Text.is ∙ json_of_text _)) c.export_target.ensures
+    gives_as itself _ _ c.whole_export.result (main_text c.args.conditions.now c.args.package_folder.now (json_of c.args.exports.now.value) _ (ap json_of c.in-Text.is ∙ json_of_text _)) c.whole_export.ensures
 
 pub returns-in-List : goal.returns-in-List
 returns-in-List c =
-    gives_as itself _ _ c.export_target-in-List.result (main_list c.args.conditions.now c.args.package_folder.now (json_of c.args.exports.now.value) _ (ap json_of c.in-List.is ∙ json_of_list _))
-    c.export_target-in-List.ensures
+    gives_as itself _ _ c.whole_export-in-List.result (main_list c.args.conditions.now c.args.package_folder.now (json_of c.args.exports.now.value) _ (ap json_of c.in-List.is ∙ json_of_list _))
+    c.whole_export-in-List.ensures
 
 pub returns-then-exports : goal.returns-then-exports
 returns-then-exports c =
@@ -23,11 +22,5 @@ returns-then-exports c =
 
 pub returns-else-exports : goal.returns-else-exports
 returns-else-exports c =
-    gives_as itself _ _ c.export_target-else-exports.result (main_plain c.args.conditions.now c.args.package_folder.now (json_of c.args.exports.now.value) _ (ap json_of c.in-Object.is ∙ json_of_object _)
-    (sym (c.requires.indexed _ (ap json_of c.in-Object.is ∙ json_of_object _)).has_dotted ∙ c.if-exports.false)) c.export_target-else-exports.ensures
-
-pub dot_export-requires-clause-distinct : goal.dot_export-requires-clause-distinct
-dot_export-requires-clause-distinct c = distinct_in _ _ (ap json_of c.in-Object.is ∙ json_of_object _) c.requires.distinct
-
-pub dot_export-requires-clause-indexed : goal.dot_export-requires-clause-indexed
-dot_export-requires-clause-indexed c = (c.requires.indexed _ (ap json_of c.in-Object.is ∙ json_of_object _)).keys
+    gives_as itself _ _ c.whole_export-else-exports.result (main_plain c.args.conditions.now c.args.package_folder.now (json_of c.args.exports.now.value) _ (ap json_of c.in-Object.is ∙ json_of_object _)
+    (sym (c.requires.indexed _ (ap json_of c.in-Object.is ∙ json_of_object _)).has_dotted ∙ c.if-exports.false)) c.whole_export-else-exports.ensures

@@ -5,7 +5,6 @@ use Rattle.node_spec.specs.declared.Cause.TheVariants.{NotExported}
 use Rattle.package_lookup.specs.Responses.{itself}
 use Rattle.node_resolve.specs.declared.fault.NodeFault.TheVariants.{Refused}
 use Rattle.node_resolve.proofs.Answering.{gives_as}
-use Rattle.node_resolve.proofs.MemberLemmas.{distinct_in}
 use Rattle.node_resolve.proofs.TargetLemmas.{given_now}
 use Rattle.node_resolve.proofs.ValueLemmas.{subpath_by_key, subpath_none}
 use Rattle.node_resolve.proofs.package_exports_resolve.subpath_export.Goals as goal
@@ -19,9 +18,3 @@ pub returns-else-exports : goal.returns-else-exports
 returns-else-exports c =
     gives_as itself _ _ (Err (Refused NotExported)) (subpath_none c.args.conditions.now c.args.package_folder.now (json_of c.args.exports.now.value) c.args.subpath.now _ (ap json_of c.in-Object.is ∙ json_of_object _)
     (sym (c.requires.indexed _ (ap json_of c.in-Object.is ∙ json_of_object _)).are_dotted ∙ c.if-exports.false)) (given_now _)
-
-pub export_at-requires-clause-distinct : goal.export_at-requires-clause-distinct
-export_at-requires-clause-distinct c = distinct_in _ _ (ap json_of c.in-Object.is ∙ json_of_object _) c.requires.distinct
-
-pub export_at-requires-clause-indexed : goal.export_at-requires-clause-indexed
-export_at-requires-clause-indexed c = (c.requires.indexed _ (ap json_of c.in-Object.is ∙ json_of_object _)).keys

@@ -5,7 +5,6 @@ use Rattle.node_spec.specs.PackageImportsResolve.{imported}
 use Rattle.node_spec.specs.declared.Cause.TheVariants.{ImportNotDefined}
 use Rattle.package_lookup.proofs.Questions.{asking_as}
 use Rattle.node_resolve.proofs.Answering.{refused_now}
-use Rattle.node_resolve.proofs.MemberLemmas.{distinct_in}
 use Rattle.ordered_json.proofs.IsJsonLemmas.{json_of_null, json_of_bool, json_of_number}
 use Rattle.node_resolve.proofs.package_imports_resolve.imported.Goals as goal
 
@@ -32,9 +31,3 @@ returns-in-Text-clause-answered g c =
 pub returns-in-List-clause-answered : goal.returns-in-List-clause-answered
 returns-in-List-clause-answered g c =
     asking_as _ _ _ _ _ (ap (imported c.args.conditions.now c.args.scope.now c.args.text.now) (sym (ap json_of c.in-List.is ∙ json_of_list _))) (refused_now _ ImportNotDefined)
-
-pub import_at-requires-clause-distinct : goal.import_at-requires-clause-distinct
-import_at-requires-clause-distinct g c = distinct_in _ _ (ap json_of c.in-Object.is ∙ json_of_object _) c.requires.distinct
-
-pub import_at-requires-clause-indexed : goal.import_at-requires-clause-indexed
-import_at-requires-clause-indexed g c = (c.requires.indexed _ (ap json_of c.in-Object.is ∙ json_of_object _)).keys

@@ -12,18 +12,18 @@ pub returns-in-Err-clause-answered : goal.returns-in-Err-clause-answered
 returns-in-Err-clause-answered g c =
     record_fails _ _ (record_at c.args.scope.now)
     (named_itself_in c.args.conditions.now c.args.scope.now (subpath_of c.args.asked.now)) c.in-Err.fault c.behind.result
-    c.behind.ensures (rw c.in-Err.is at c.record_of.ensures.record)
+    c.behind.ensures (rw c.in-Err.is at c.record_under.ensures.record)
 
 pub returns-in-Ok-None-clause-answered : goal.returns-in-Ok-None-clause-answered
 returns-in-Ok-None-clause-answered g c =
     then_ok _ _ _ (record_at c.args.scope.now)
     (named_itself_in c.args.conditions.now c.args.scope.now (subpath_of c.args.asked.now)) None _
-    (rw (c.in-Ok-None.is, c.in-Ok-None.field-0-is) at c.record_of.ensures.record) (now_given _ (Ok None))
+    (rw (c.in-Ok-None.is, c.in-Ok-None.field-0-is) at c.record_under.ensures.record) (now_given _ (Ok None))
 
 pub returns-in-Ok-Some-clause-answered : goal.returns-in-Ok-Some-clause-answered
 returns-in-Ok-Some-clause-answered g c =
     then_ok _ _ _ (record_at c.args.scope.now)
     (named_itself_in c.args.conditions.now c.args.scope.now (subpath_of c.args.asked.now))
     (Some (record_shown c.in-Ok-Some.of_scope.value)) _
-    (rw (c.in-Ok-Some.is, c.in-Ok-Some.field-0-is) at c.record_of.ensures.record)
+    (rw (c.in-Ok-Some.is, c.in-Ok-Some.field-0-is) at c.record_under.ensures.record)
     (now_comes itself _ _ c.self_in.result (rw c.deref.ensures at c.self_in.ensures))

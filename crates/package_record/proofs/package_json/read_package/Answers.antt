@@ -10,11 +10,12 @@ pub returns-in-Ok-package_of : goal.returns-in-Ok-package_of
 returns-in-Ok-package_of c =
     let reads : ReadsRecord c.args.bytes.now (Ok (record_shown c.in-Ok-package_of.package)) = object_record _ _ _ _ _ c.behind_mark.ensures (reads_json c.in-Ok.ensures) c.in-Some.ensures (c.in-Ok-package_of.ensures.shown _ c.in-Ok-fields_of.ensures) in
     let apart = record_names_are_distinct c.args.bytes.now (Ok (record_shown c.in-Ok-package_of.package)) reads in
-    let indexed = c.in-Ok-package_of.ensures.indexed in
+    let exports = c.in-Ok-package_of.ensures.exports in
+    let imports = c.in-Ok-package_of.ensures.imports in
     record {
       reads = reads;
-      exports = record { distinct = apart.0; indexed = indexed.0 };
-      imports = record { distinct = apart.1; indexed = indexed.1 };
+      exports = record { distinct = apart.0; indexed = exports.indexed; left = exports.left };
+      imports = record { distinct = apart.1; indexed = imports.indexed; left = imports.left };
     }
 
 pub returns-in-None : goal.returns-in-None

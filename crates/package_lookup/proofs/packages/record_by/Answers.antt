@@ -6,7 +6,7 @@ use Rattle.package_lookup.specs.SeenLooks.{entry_of}
 use Rattle.package_lookup.specs.declared.fault.LookupFault.TheVariants.{Memory}
 use Rattle.package_lookup.proofs.Questions.{resolved_err, no_memory_now}
 use Rattle.package_lookup.proofs.RecordAnswers.{no_record, record_fails, record_answered}
-use Rattle.package_lookup.proofs.packages.record_of.Goals as goal
+use Rattle.package_lookup.proofs.packages.record_by.Goals as goal
 
 pub returns-in_err-join-clause-record : goal.returns-in_err-join-clause-record
 returns-in_err-join-clause-record g c =
