@@ -41,6 +41,7 @@ impl<'a, R> DiskFolder<'a, R> {
                 alloc,
                 root,
                 ways: HashMap::new(alloc),
+                gap: None,
                 writes: false,
             },
             look_faults: 0,
@@ -125,6 +126,9 @@ struct Disk<'a, R> {
     root: &'a str,
     /// Names below the root, and whether a folder stands there, and above it folders alone.
     ways: HashMap<String, bool>,
+    /// The path of the last of these names at which no folder was found by a look: nothing stands below it, so looks at
+    /// many paths below it, as at each folder above a path, don't go through all names between.
+    gap: Option<String>,
     /// Whether that was found by writes alone, with no look behind the first of them.
     writes: bool,
 }
@@ -149,6 +153,9 @@ impl<'a, R: Files> Disk<'a, R> {
     /// What stands at a path, where a file may have at most `limit` bytes.
     fn look(&mut self, alloc: Global, path: &str, limit: u64) -> Result<Look, Obstacle> {
         self.writes = false;
+        if self.is_beyond(path) {
+            return Ok(Look::Absent);
+        }
         let name = self.name_of(alloc, path)?;
         if !self.reaches(above(name.as_str()))? {
             return Ok(Look::Absent);
@@ -157,6 +164,7 @@ impl<'a, R: Files> Disk<'a, R> {
             Standing::Absent => Ok(Look::Absent),
             Standing::Folder => {
                 self.keep(name, true)?;
+                self.gap = None;
                 Ok(Look::Folder)
             }
             Standing::File(size) => {
@@ -178,6 +186,7 @@ impl<'a, R: Files> Disk<'a, R> {
         if !self.writes {
             // The first write behind a look judges each folder on its way anew.
             self.ways.clear();
+            self.gap = None;
             self.writes = true;
         }
         self.make_folder(above)?;
@@ -248,19 +257,58 @@ impl<'a, R: Files> Disk<'a, R> {
 
     /// Whether a folder stands under a name, and above it, from the root folder on, folders alone.
     fn reaches(&mut self, name: &str) -> Result<bool, Obstacle> {
-        if name.len() <= self.root.len() {
-            return Ok(true);
-        }
         if let Some(is_reached) = self.ways.get(name) {
             return Ok(*is_reached);
         }
-        // Nothing is kept of a name below one that isn't reached, so a path leaves at most one such name.
-        if !self.reaches(above(name))? {
-            return Ok(false);
+        let Some(path) = name.strip_prefix(self.root) else {
+            return Ok(true);
+        };
+        // From the root on, so that where a folder is missing nothing is done for those below it.
+        let mut front = String::with_capacity(self.alloc, name.len())?;
+        front.push_str(self.root)?;
+        for segment in path.split('/') {
+            if !segment.is_empty() {
+                front.push('/')?;
+                front.push_str(segment)?;
+                if !self.is_way(front.as_str())? {
+                    return Ok(false);
+                }
+            }
+        }
+        Ok(true)
+    }
+
+    /// Whether a folder stands under a name, where above it folders alone do. Nothing is kept of a name below one where
+    /// none does, so a path leaves at most one such name.
+    fn is_way(&mut self, name: &str) -> Result<bool, Obstacle> {
+        if let Some(is_reached) = self.ways.get(name) {
+            return Ok(*is_reached);
         }
         let is_reached = matches!(self.standing(name)?, Standing::Folder);
         self.keep(String::from_str(self.alloc, name)?, is_reached)?;
+        if !is_reached {
+            self.gap = self.path_of(name)?;
+        }
         Ok(is_reached)
+    }
+
+    /// The path of what stands under a name.
+    fn path_of(&self, name: &str) -> Result<Option<String>, AllocError> {
+        match name.strip_prefix(self.root) {
+            None => Ok(None),
+            Some(path) => Ok(Some(String::from_str(self.alloc, path)?)),
+        }
+    }
+
+    /// Whether a path is below the last gap.
+    fn is_beyond(&self, path: &str) -> bool {
+        match &self.gap {
+            None => false,
+            Some(gap) => match path.strip_prefix(gap.as_str()) {
+                None => false,
+                Some(rest) => rest.starts_with('/'),
+            },
+        }
     }
 
     /// A new file in a folder, with its name.
@@ -343,7 +391,7 @@ mod tests {
         Ok(format!(in alloc; "{trouble}")?)
     }
 
-    static LOOKS: [(&str, u64, Seen); 12] = [
+    static LOOKS: [(&str, u64, Seen); 16] = [
         ("/", 9, Seen::Folder),
         ("/folder", 0, Seen::Folder),
         ("/folder/five", 5, Seen::File(5)),
@@ -351,6 +399,10 @@ mod tests {
         ("/folder/empty", 0, Seen::File(0)),
         ("/folder/none", 9, Seen::Absent),
         ("/none/none", 9, Seen::Absent),
+        ("/none/none/none", 9, Seen::Absent),
+        ("/none", 9, Seen::Absent),
+        ("/fold/none", 9, Seen::Absent),
+        ("/folder/five", 5, Seen::File(5)),
         ("/folder/five/below", 9, Seen::Absent),
         ("/linked_file", 9, Seen::Failed),
         ("/linked_folder", 9, Seen::Failed),
@@ -409,6 +461,27 @@ mod tests {
             "a special file"
         );
         assert!(rt; shown(alloc, &devices)?.as_str() == "/dev/null: special file");
+        fs::remove_dir_all(&rt, root.as_str())?;
+        Ok(())
+    }
+
+    #[test]
+    fn a_folder_that_comes_is_found(rt: HostRuntime) -> Result<(), Fail> {
+        let alloc = rt.alloc();
+        let root = made(&rt, "comes")?;
+        let mut folder = DiskFolder::new(rt, alloc, root.as_str());
+        let above = Path::parse(alloc, "/late")?;
+        let below = Path::parse(alloc, "/late/deep/file")?;
+        let before = answered(folder.look(alloc, &below, 9));
+        fs::create_dir_all(&rt, format!(in alloc; "{root}/late/deep")?.as_str())?;
+        fs::write(
+            &rt,
+            format!(in alloc; "{root}/late/deep/file")?.as_str(),
+            "1",
+        )?;
+        let between = answered(folder.look(alloc, &above, 9));
+        let after = answered(folder.look(alloc, &below, 9));
+        assert!(rt; (before, between, after) == (Seen::Absent, Seen::Folder, Seen::File(1)));
         fs::remove_dir_all(&rt, root.as_str())?;
         Ok(())
     }
@@ -491,15 +564,21 @@ mod tests {
         Ok(())
     }
 
-    /// A name of 256 bytes, one more than a disk takes.
-    const LONG: &str =
-        "/alone/xxxxxxxxxxxxxxxxxxxxxxxxxxxxxxxxxxxxxxxxxxxxxxxxxxxxxxxxxxxxxxxxxxxxxxxxxxxxxxxxxxxxxxxxxxxxxxxxxxxxxxxxxxxxxxxxxxxxxxxxxxxxxxxxxxxxxxxxxxxxxxxxxxxxxxxxxxxxxxxxxxxxxxxxxxxxxxxxxxxxxxxxxxxxxxxxxxxxxxxxxxxxxxxxxxxxxxxxxxxxxxxxxxxxxxxxxxxxxxxxxxxxxxxxxxxxxxxx";
+    /// A path whose last name has 256 bytes, one more than a disk takes.
+    fn long_path(alloc: Global) -> Result<String, Fail> {
+        let mut path = String::from_str(alloc, "/alone/")?;
+        for _ in 0..256 {
+            path.push('x')?;
+        }
+        Ok(path)
+    }
 
     #[test]
     fn a_name_too_long_is_absent(rt: HostRuntime) -> Result<(), Fail> {
         let root = made(&rt, "long")?;
         let mut folder = DiskFolder::new(rt, rt.alloc(), root.as_str());
-        let found = rewritten(rt.alloc(), &mut folder, LONG)?;
+        let long = long_path(rt.alloc())?;
+        let found = rewritten(rt.alloc(), &mut folder, long.as_str())?;
         assert!(rt; found == (Seen::Absent, false, Seen::Absent));
         // What the write made beside its goal is gone, so the folder can be taken away as an empty one.
         fs::remove_dir(&rt, format!(in rt.alloc(); "{root}/alone")?.as_str())?;
