@@ -20,7 +20,7 @@ use Rattle.session_spec.specs.declared.Change.{Change}
 use Rattle.session_spec.specs.declared.EditFault.{EditFault}
 use Rattle.session_spec.specs.Edits.{Draft, edited}
 use Rattle.session_spec.specs.SessionStates.{SessionState, draft_of, config_with}
-use Rattle.edit_session.specs.Frugality.{TakesFresh, IsFrugal}
+use Rattle.session_spec.specs.Frugality.{TakesFresh, IsFrugal}
 use Rattle.edit_session.specs.KeptAnswers.{AreAnswersOf}
 
 pub takes_fresh : FreshIsByTrees → (kept : Kept) (tree : Tree) (config : Config) → AreAnswersOf kept tree config

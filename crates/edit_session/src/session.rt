@@ -68,7 +68,7 @@ pub(crate) struct Pending {
 
 impl Session {
     ghost use Rattle.session_spec.specs.SessionStates.{SessionState};
-    ghost use Rattle.edit_session.specs.Frugality.{IsFrugal};
+    ghost use Rattle.session_spec.specs.Frugality.{IsFrugal};
     ghost use Rattle.edit_session.specs.SessionTrees.{IsSessionOf, shown_map, shown_counts, counts_told, steps_of, pending_steps};
     ghost use Rattle.edit_session.specs.SessionParts.{pending_over};
     ghost use Rattle.edit_session.specs.declared.session.Prepared.TheVariants.{Same, Changed};
