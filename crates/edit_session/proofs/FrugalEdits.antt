@@ -3,8 +3,8 @@
 --     frugal               and of an edit whose changes are made
 --     frugal_nothing       where nothing is traced
 --     opens_to_end, opens_nothing      those of the opening
-use Rattle.std.proofs.Common.{◌≡◌, ◌≤◌, ◌+◌, ◌∷◌, [], ℕ, Bool, true, false, List, Option, Some, None, Result, Ok, Err, refl, sym, ◌∙◌, subst, arith}
-use Rattle.std.specs.Prelude.{OnErr, length, filter, cond}
+use Rattle.std.proofs.Common.{◌≡◌, ◌≤◌, ◌+◌, ◌∷◌, [], ℕ, Bool, true, false, List, Option, None, Result, Ok, Err, sym, ◌∙◌, subst, arith}
+use Rattle.std.specs.Prelude.{OnErr, length, filter, cond, Some}
 use Rattle.std.specs.FinMap.{get}
 use Rattle.std.proofs.lemmas.Option.{same_Some}
 use Rattle.asking_spec.specs.Askings.{questions}
@@ -12,9 +12,8 @@ use Rattle.tree_spec.proofs.ToldStates.{if_some, if_all}
 use Rattle.tree_spec.specs.LookAskings.{Sights}
 use Rattle.tree_spec.specs.States.{FolderState}
 use Rattle.tree_spec.specs.Trees.{Tree}
-use Rattle.trace_spec.specs.Laws.{asked_by_end}
 use Rattle.trace_spec.specs.Modules.{Config}
-use Rattle.trace_spec.specs.Questions.{Question, always}
+use Rattle.trace_spec.specs.Questions.{always}
 use Rattle.trace_spec.specs.Traces.{trace}
 use Rattle.package_lookup.proofs.Laying.{laid_is_seen, nothing_kept, nothing_laid}
 use Rattle.package_lookup.specs.Looked.{kept_at, laid_at, Sees}

@@ -25,9 +25,6 @@ use Rattle.package_lookup.specs.Looked.{Sees}
 use Rattle.package_lookup.specs.declared.known.Known.{Known}
 use Rattle.request_trace.specs.Tracing.{known_of, IsOfFootprint}
 use Rattle.kept_answers.specs.RightAnswers.{untold}
-use Rattle.kept_answers.specs.Entries.{ModuleSeen, Request}
-use Rattle.kept_answers.specs.Tables.{IsModuleOf, IsRequestOf, modules_at, requests_at}
-use Rattle.kept_answers.specs.declared.requests.KeptRequest.{KeptRequest}
 use Rattle.kept_trace.specs.Ready.{AreAllRight, IsEmptyUnder}
 use Rattle.kept_trace.specs.Keeping.{KeepsTraced}
 use Rattle.kept_trace.specs.Tracing.{KeepsAsked, TracesIf}

@@ -1,6 +1,6 @@
 -- The answers that a session keeps.
---     AreAnswersOf kept tree config       they are right, and of each question of the trace of this tree and config one is
---                                         kept whose looks see what stands there
+--     AreAnswersOf kept tree config       they are right, and of each question of the trace of this tree and config one
+--                                         is kept whose looks see what stands there
 use Rattle.std.specs.Prelude.{◌≡◌}
 use Rattle.std.specs.FinMap.{get}
 use Rattle.asking_spec.specs.Askings.{questions}

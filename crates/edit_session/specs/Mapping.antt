@@ -1,9 +1,9 @@
 -- A generation by kept answers.
---     GeneratesIf right config before known result after later      where what is kept is right, what generation gives; and
---                                          whatever is kept, all that is owed of a folder that tells no tree
---     IsKeptFor kept config next seen      what is kept next are the answers of the trace of what is seen, if what was kept
---                                          before stands under the same conditions
---     LeavesAnswers kept config before known next      where what was kept is right, so it is
+--     GeneratesIf right config before known result after later      where what is kept is right, what generation gives;
+--                                          and whatever is kept, all that is owed of a folder that tells no tree
+--     IsKeptFor kept config next seen      what is kept next are the answers of the trace of what is seen, if what was
+--                                          kept before was kept under the config's conditions
+--     LeavesAnswers kept config before known next      so it is where what was kept is right
 use Rattle.std.specs.Prelude.{◌≡◌, Result, IfSome}
 use Rattle.tree_spec.specs.States.{FolderState}
 use Rattle.tree_spec.specs.Trees.{Tree}

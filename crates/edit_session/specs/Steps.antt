@@ -1,6 +1,6 @@
 -- The steps of an edit.
---     LeadsTo tree state edit config pending kept      the edit leads to what is pending, for this config, and these are
---                                             the answers of its trace
+--     LeadsTo tree state edit config pending kept      the edit leads to what is pending, for this config, and these
+--                                             are the answers of its trace
 --     LacksMap tree config stop               for this reason there is no map
 --     CanLackMap config stop                  there can be none, whatever the folder tells
 --     IsAsBefore old new                      but for what is kept, the parts are as before

@@ -31,9 +31,9 @@ pub struct Counts {
     pub mappings: usize,
 }
 
-/// A map that is kept current: the config, what was seen of the folder, what edits laid over it, and the map that is
-/// generated for these; and beside them what an edit that is prepared would make of them. The answers of the map's trace
-/// are kept, so an edit costs what it changed.
+/// A map that is kept current: the config, what was seen of the folder, what edits laid over it, the map that is
+/// generated for these, and the answers of its trace, by which the next one is made; and beside them what an edit that
+/// is prepared would make of them.
 #[derive(Drop)]
 pub struct Session {
     known: Known,
@@ -70,7 +70,8 @@ impl Session {
     ghost use Rattle.generation.specs.Generating.{StepsToEnd};
     ghost use Rattle.session_spec.specs.SessionStates.{SessionState};
     ghost use Rattle.session_spec.specs.Frugality.{IsFrugal};
-    ghost use Rattle.edit_session.specs.SessionTrees.{IsSessionOf, shown_map, shown_counts, counts_told, steps_of, pending_steps};
+    ghost use Rattle.edit_session.specs.SessionTrees.{IsSessionOf, shown_map, shown_counts, counts_told};
+    ghost use Rattle.edit_session.specs.SessionTrees.{steps_of, pending_steps};
     ghost use Rattle.edit_session.specs.SessionParts.{pending_over};
     ghost use Rattle.edit_session.specs.declared.session.Prepared.TheVariants.{Same, Changed};
     ghost use Rattle.edit_session.specs.Sessions.{OpensSession, Prepares, Commits};
@@ -128,7 +129,8 @@ impl Session {
 
     /// Tries the changes of an edit one after another, and generates for what they leave, unless there are none. What
     /// comes of it is pending then; it takes the place of what was. What is refused leaves the session as it was, with
-    /// nothing pending.
+    /// nothing pending. A step is taken at most for each question of the trace that wasn't asked for the session's own,
+    /// or at whose footprint something changed.
     pub fn prepare<F: Folder, L: Ledger>(
         &mut self,
         alloc: Global,
@@ -138,7 +140,8 @@ impl Session {
     ) -> Result<(), EditStop>
         ensures prepares { Prepares (F.state folder.old) self.old edit.now result (F.state folder.new) self.new }
         ensures steps { TakesSteps result (λ done. pending_steps self.new) steps.old steps.new }
-        ensures fresh { IfSome (F.state folder.old).holds (λ tree. (state : SessionState) → IsSessionOf tree self.old state
+        ensures fresh { IfSome (F.state folder.old).holds
+            (λ tree. (state : SessionState) → IsSessionOf tree self.old state
             → IsFrugal state edit.now steps.old steps.new) }
     {
         let mut looks = self.take_looks(alloc);

@@ -37,7 +37,7 @@ use Rattle.generator_spec.specs.declared.MapFileFault.TheVariants as map_fault
 use Rattle.generator_spec.specs.declared.Refusal.TheVariants.{MapFile, NestedTooDeep}
 use Rattle.generator_spec.specs.Checking.{no_need, need_at, spelling_at, difference_line, difference_lines, SaysOfModules, SaysOfModules as of_modules, AreLined, AreLined as lined_as, check_lines}
 use Rattle.generator_spec.specs.Commands.{map_path, map_file_limit, map_file_fault, IsMapText, ReadsMap, HoldsMap, RefusesMapFile, RefusesMapFile as refuses_map}
-use Rattle.generator_spec.specs.Commands.{IsChecking, IsChecking as checking, Opens as opens, Refuses as refuses, IsRefusalOf as kind}
+use Rattle.generator_spec.specs.Commands.{IsChecking, IsChecking as checking, Opens, Opens as opens, Refuses as refuses, IsRefusalOf as kind}
 use Rattle.config_spec.specs.Projects.{IsConfigOf}
 use Rattle.generator_spec.specs.Outcome.{ComesTo as comes, Outcome}
 use Rattle.generator_spec.specs.Ending.{IsDifference, IsStrictLine, IsStrictLine as lined, AreStrictLines, AreStrictLines as are, IsDone, IsDone as done, Says, Ends, EndsAs, Shaped as shaped, Says as says}
@@ -46,7 +46,7 @@ use Rattle.generation.specs.declared.stop.Stop.{Stop}
 use Rattle.generation.specs.declared.stop.Stop.TheVariants.{Refused, ReadFault, Memory}
 use Rattle.generation.specs.Generating.{Tracing}
 use Rattle.generator_core.specs.declared.checking.Report.{Report}
-use Rattle.generator_spec.specs.Asked.{AsksOwn}
+use Rattle.generator_spec.specs.Asked.{AsksOwn, own_file}
 use Rattle.generator_core.specs.Preparing.{EndsBefore}
 use Rattle.generator_core.specs.Checking.{AsksGrammar, AsksGrammar as asks, IsMapTextFound, FindsMapText, IsMapStop, FindsMap, IsReport, IsReportStop, Reports}
 use Rattle.generator_core.specs.Checking.{IsHeldAndTraced, IsReported, ChecksBy, Checks, IsMapStop as map_stop, IsReportStop as report_stop}
@@ -176,6 +176,11 @@ module _ (config : Config) (before after : FolderState) where
   stops_map command checks text stop found (map_stop.memory same) =
       no_stop command stop _ same (record { refused = tt; kind = tt; looks = looks_as before after (λ e. absurd (cc)) (λ e. absurd e) found.looks })
 
+-- the map's file is the command's own
+asks_map : (command : Command) → IsChecking command → (config : Config) (told : Option (List (List ℕ))) (after : FolderState) → IfSome told (λ old. AsksOwn (map_path ∷ []) old after) → IfSome told (λ old. AsksOwn (own_file command config) old after)
+asks_map _ checking.plainly config told after asked = asked
+asks_map _ checking.strictly config told after asked = asked
+
 module _ (command : Command) (config : Config) (before middle after : FolderState) where
   earlier_report : (report : Report) → OnlyLooks before middle ⊥ → IsReported command config middle after report → IsReported command config before after report
   earlier_report report looks is = record {
@@ -186,9 +191,13 @@ module _ (command : Command) (config : Config) (before middle after : FolderStat
     looks = looks_then before middle after (λ e. e) looks is.looks;
   }
 
-  pub checks_behind : (text : List ℕ) (result : Result Report Stop) → FindsMapText before (Ok text) middle → ChecksBy command config middle result after → Checks command config before result after
-  checks_behind text (Ok report) found is = record { reported = earlier_report report found.found.looks is.reported; asked = own_then config before.holds middle.holds (map_path ∷ []) before.asked middle after found.found.looks.tree found.asked is.asked is.footprint; stopped = tt }
-  checks_behind text (Err stop) found is = record { reported = tt; asked = own_then config before.holds middle.holds (map_path ∷ []) before.asked middle after found.found.looks.tree found.asked is.asked is.footprint; stopped = earlier_end config before middle after command stop found.found.looks is.stopped }
+  -- the command is opened by the map that was read
+  check_opens : IsChecking command → (text : List ℕ) (parsed : ParsedMap) → ReadsMap config text (Ok parsed) → FindsMapText before (Ok text) middle → IfSome before.holds (λ tree. Opens tree config command)
+  check_opens checks text parsed reads found = if_some before.holds (λ tree holds. opens.has_map command checks parsed holds) (opens_map config before middle text parsed found.found.is_text reads)
+
+  pub checks_behind : IsChecking command → (text : List ℕ) (parsed : ParsedMap) (result : Result Report Stop) → ReadsMap config text (Ok parsed) → FindsMapText before (Ok text) middle → ChecksBy command config middle result after → Checks command config before result after
+  checks_behind checks text parsed (Ok report) reads found is = record { reported = earlier_report report found.found.looks is.reported; asked = own_then command config before.holds middle.holds before.asked middle after found.found.looks.tree (check_opens checks text parsed reads found) (asks_map command checks config before.asked middle found.asked) is.asked is.footprint; stopped = tt }
+  checks_behind checks text parsed (Err stop) reads found is = record { reported = tt; asked = own_then command config before.holds middle.holds before.asked middle after found.found.looks.tree (check_opens checks text parsed reads found) (asks_map command checks config before.asked middle found.asked) is.asked is.footprint; stopped = earlier_end config before middle after command stop found.found.looks is.stopped }
 
 module _ (config : Config) (before after : FolderState) where
   -- the map's file is where it was
@@ -196,10 +205,10 @@ module _ (config : Config) (before after : FolderState) where
   text_still text parsed found reads = subst (λ held. IfSome held (λ tree. HoldsMap tree config parsed)) (sym found.found.looks.tree) (opens_map config before after text parsed found.found.is_text reads)
 
   pub text_refused : (command : Command) → IsChecking command → (stop : Stop) → FindsMapText before (Err stop) after → Checks command config before (Err stop) after
-  text_refused command checks stop found = record { reported = tt; asked = own_alone config before.holds (map_path ∷ []) before.asked after found.asked; stopped = found.stopped command checks config }
+  text_refused command checks stop found = record { reported = tt; asked = own_alone command config before.holds before.asked after (asks_map command checks config before.asked after found.asked); stopped = found.stopped command checks config }
 
   pub map_refused : (command : Command) → IsChecking command → (text : List ℕ) (stop : Stop) → FindsMapText before (Ok text) after → IsMapStop config text stop → Checks command config before (Err stop) after
-  map_refused command checks text stop found why = record { reported = tt; asked = own_alone config before.holds (map_path ∷ []) before.asked after found.asked; stopped = stops_map config before after command checks text stop found.found why }
+  map_refused command checks text stop found why = record { reported = tt; asked = own_alone command config before.holds before.asked after (asks_map command checks config before.asked after found.asked); stopped = stops_map config before after command checks text stop found.found why }
 
   -- ---- the trace
 

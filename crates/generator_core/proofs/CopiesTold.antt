@@ -64,10 +64,10 @@ copies_ask words to config before middle after (Some old) asks_to is same own la
     by : AsksCopies to config middle (old ++ own.first) after → AsksInOrder words before old after
     by (asks.early few) =
         in_order.then own.first own.is_own Vendor config is
-        (subst (λ held. AsksFew config held [] (old ++ own.first) after) same few)
+        (subst (λ held. AsksFew Vendor config held (old ++ own.first) after) same few)
     by (asks.late has between few last) =
         in_order.behind own.first own.is_own to config asks_to is (subst (HasMap config) same has) between
-        (subst (λ held. AsksFew config held [] (old ++ own.first) between) same few) last
+        (subst (λ held. AsksFew Vendor config held (old ++ own.first) between) same few) last
 
 -- writes ask for nothing
 pub still_asked : (to : List ℕ) (config : Config) (before middle after : FolderState) → after.asked ≡ middle.asked
@@ -82,6 +82,7 @@ still_asked to config before middle after same asked = if_some before.asked (λ 
       asked = same ∙ few.asked;
       once = few.once;
       of_footprint = few.of_footprint;
+      opened = few.opened;
     })
     by old (asks.late has between few last) = asks.late has between few (same ∙ last)
 

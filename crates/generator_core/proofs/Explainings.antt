@@ -69,22 +69,22 @@ module _ (path : List ℕ) (config : Config) (before after : FolderState) where
   pub trace_stops_why : (stop : Stop) → Tracing config before (Err stop) after → ExplainsFile path config before (Err stop) after
   trace_stops_why (Refused why) is = record {
     explained = tt;
-    asked = asks_few config before.holds [] before.asked after is.asked is.footprint;
+    asked = asks_few Why config before.holds before.asked after (if_all before.holds (λ tree. opens.no_other_file)) is.asked is.footprint;
     stopped = record {
       refused = if_two before.holds (λ tree opened refuses_each. refuses_each Why opened) (if_all before.holds (λ tree. opens.no_other_file)) is.refused;
       kind = is.kind Why;
       looks = looks_as before after (λ e. absurd (cc)) (λ e. absurd (cc)) is.looks;
     };
   }
-  trace_stops_why ReadFault is = record { explained = tt; asked = asks_few config before.holds [] before.asked after is.asked is.footprint; stopped = record { refused = tt; kind = tt; looks = looks_as before after (λ e. refl) (λ e. refl) is.looks } }
-  trace_stops_why Memory is = record { explained = tt; asked = asks_few config before.holds [] before.asked after is.asked is.footprint; stopped = record { refused = tt; kind = tt; looks = looks_as before after (λ e. absurd (cc)) (λ e. absurd (cc)) is.looks } }
+  trace_stops_why ReadFault is = record { explained = tt; asked = asks_few Why config before.holds before.asked after (if_all before.holds (λ tree. opens.no_other_file)) is.asked is.footprint; stopped = record { refused = tt; kind = tt; looks = looks_as before after (λ e. refl) (λ e. refl) is.looks } }
+  trace_stops_why Memory is = record { explained = tt; asked = asks_few Why config before.holds before.asked after (if_all before.holds (λ tree. opens.no_other_file)) is.asked is.footprint; stopped = record { refused = tt; kind = tt; looks = looks_as before after (λ e. absurd (cc)) (λ e. absurd (cc)) is.looks } }
 
   module _ (trace : Traced) (is : Tracing config before (Ok trace.gathered) after) where
     quiet_looks : OnlyLooks before after ⊥
     quiet_looks = looks_as before after (λ e. absurd e) (λ e. absurd (cc)) is.looks
 
     pub no_report : ExplainsFile path config before (Err Memory) after
-    no_report = record { explained = tt; asked = asks_few config before.holds [] before.asked after is.asked is.footprint; stopped = record { refused = tt; kind = tt; looks = looks_as before after (λ e. absurd (cc)) (λ e. absurd e) quiet_looks } }
+    no_report = record { explained = tt; asked = asks_few Why config before.holds before.asked after (if_all before.holds (λ tree. opens.no_other_file)) is.asked is.footprint; stopped = record { refused = tt; kind = tt; looks = looks_as before after (λ e. absurd (cc)) (λ e. absurd e) quiet_looks } }
 
     pub explains :
         Shows trace → IsLinked trace.links → AreModules trace.links.graph
@@ -102,7 +102,7 @@ module _ (path : List ℕ) (config : Config) (before after : FolderState) where
         }) is.traces;
         looks = quiet_looks;
       };
-      asked = asks_few config before.holds [] before.asked after is.asked is.footprint;
+      asked = asks_few Why config before.holds before.asked after (if_all before.holds (λ tree. opens.no_other_file)) is.asked is.footprint;
       stopped = tt;
     }
 

@@ -85,27 +85,27 @@ module _ (config : Config) (before after : FolderState) where
   pub trace_stops_list : (stop : Stop) → Tracing config before (Err stop) after → Lists config before (Err stop) after
   trace_stops_list (Refused why) is = record {
     listed = tt;
-    asked = asks_few config before.holds [] before.asked after is.asked is.footprint;
+    asked = asks_few ListModules config before.holds before.asked after (if_all before.holds (λ tree. opens.no_file)) is.asked is.footprint;
     stopped = record {
       refused = if_two before.holds (λ tree opened refuses_each. refuses_each ListModules opened) (if_all before.holds (λ tree. opens.no_file)) is.refused;
       kind = is.kind ListModules;
       looks = looks_as before after (λ e. absurd (cc)) (λ e. absurd (cc)) is.looks;
     };
   }
-  trace_stops_list ReadFault is = record { listed = tt; asked = asks_few config before.holds [] before.asked after is.asked is.footprint; stopped = record { refused = tt; kind = tt; looks = looks_as before after (λ e. refl) (λ e. refl) is.looks } }
-  trace_stops_list Memory is = record { listed = tt; asked = asks_few config before.holds [] before.asked after is.asked is.footprint; stopped = record { refused = tt; kind = tt; looks = looks_as before after (λ e. absurd (cc)) (λ e. absurd (cc)) is.looks } }
+  trace_stops_list ReadFault is = record { listed = tt; asked = asks_few ListModules config before.holds before.asked after (if_all before.holds (λ tree. opens.no_file)) is.asked is.footprint; stopped = record { refused = tt; kind = tt; looks = looks_as before after (λ e. refl) (λ e. refl) is.looks } }
+  trace_stops_list Memory is = record { listed = tt; asked = asks_few ListModules config before.holds before.asked after (if_all before.holds (λ tree. opens.no_file)) is.asked is.footprint; stopped = record { refused = tt; kind = tt; looks = looks_as before after (λ e. absurd (cc)) (λ e. absurd (cc)) is.looks } }
 
   module _ (all : Gathered) (is : Tracing config before (Ok all) after) where
     quiet_looks : OnlyLooks before after ⊥
     quiet_looks = looks_as before after (λ e. absurd e) (λ e. absurd (cc)) is.looks
 
     pub no_list : Lists config before (Err Memory) after
-    no_list = record { listed = tt; asked = asks_few config before.holds [] before.asked after is.asked is.footprint; stopped = record { refused = tt; kind = tt; looks = looks_as before after (λ e. absurd (cc)) (λ e. absurd e) quiet_looks } }
+    no_list = record { listed = tt; asked = asks_few ListModules config before.holds before.asked after (if_all before.holds (λ tree. opens.no_file)) is.asked is.footprint; stopped = record { refused = tt; kind = tt; looks = looks_as before after (λ e. absurd (cc)) (λ e. absurd e) quiet_looks } }
 
     pub lists : (report : Report) → report.status ≡ 0 → report.text.items ≡ concat (list_lines all) → Lists config before (Ok report) after
     lists report status text = record {
       listed = record { all = all; status = status; text = text; told = is.traces; looks = quiet_looks };
-      asked = asks_few config before.holds [] before.asked after is.asked is.footprint;
+      asked = asks_few ListModules config before.holds before.asked after (if_all before.holds (λ tree. opens.no_file)) is.asked is.footprint;
       stopped = tt;
     }
 

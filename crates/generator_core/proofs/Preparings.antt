@@ -40,8 +40,8 @@ use Rattle.generator_core.specs.Preparing.{EndsBefore, IsPageFound, FindsPage, H
 
 -- ---- what is asked of the folder
 
-pub asks_few : (config : Config) (holds : Option Tree) (own : List (List ℕ)) (told : Option (List (List ℕ))) (after : FolderState) → IfSome told (λ old. AsksNoPathTwice old after) → IfSome told (λ old. AsksFootprint config holds old after) → IfSome told (λ old. AsksFew config holds own old after)
-asks_few config holds own told after asks at = if_two told (λ old is looks. record { first = []; is_own = inl refl; more = is.more; asked = is.asked; once = is.once; of_footprint = looks is.more is.asked }) asks at
+pub asks_few : (command : Command) (config : Config) (holds : Option Tree) (told : Option (List (List ℕ))) (after : FolderState) → IfSome holds (λ tree. Opens tree config command) → IfSome told (λ old. AsksNoPathTwice old after) → IfSome told (λ old. AsksFootprint config holds old after) → IfSome told (λ old. AsksFew command config holds old after)
+asks_few command config holds told after opened asks at = if_two told (λ old is looks. record { first = []; is_own = inl refl; more = is.more; asked = is.asked; once = is.once; of_footprint = looks is.more is.asked; opened = inr opened }) asks at
 
 pub own_asked : (own path : List ℕ) (b : Bool) (told : Option (List (List ℕ))) (after : FolderState) → path ≡ own → after.asked ≡ asked_after b path told → IfSome told (λ old. AsksOwn (own ∷ []) old after)
 own_asked own path b None after same is = tt
@@ -52,13 +52,13 @@ own_asked own path false (Some old) after same is = record { first = []; is_own 
 no_more : (config : Config) (holds : Option Tree) → IfSome holds (λ tree. All (IsLookedAt (get tree) config) [])
 no_more config holds = if_all holds (λ tree. All-nil (IsLookedAt (get tree) config))
 
-pub own_alone : (config : Config) (holds : Option Tree) (own : List (List ℕ)) (told : Option (List (List ℕ))) (after : FolderState) → IfSome told (λ old. AsksOwn own old after) → IfSome told (λ old. AsksFew config holds own old after)
-own_alone config holds own told after asks = if_some told (λ old is. record { first = is.first; is_own = is.is_own; more = []; asked = is.asked ∙ ap (λ first. Some (old ++ first)) (sym (append-nil is.first)); once = distinct_none; of_footprint = no_more config holds }) asks
+pub own_alone : (command : Command) (config : Config) (holds : Option Tree) (told : Option (List (List ℕ))) (after : FolderState) → IfSome told (λ old. AsksOwn (own_file command config) old after) → IfSome told (λ old. AsksFew command config holds old after)
+own_alone command config holds told after asks = if_some told (λ old is. record { first = is.first; is_own = is.is_own; more = []; asked = is.asked ∙ ap (λ first. Some (old ++ first)) (sym (append-nil is.first)); once = distinct_none; of_footprint = no_more config holds; opened = inl refl }) asks
 
-pub own_then : (config : Config) (holds later_holds : Option Tree) (own : List (List ℕ)) (told : Option (List (List ℕ))) (middle after : FolderState) → later_holds ≡ holds → IfSome told (λ old. AsksOwn own old middle) → IfSome middle.asked (λ old. AsksNoPathTwice old after) → IfSome middle.asked (λ old. AsksFootprint config later_holds old after)
-    → IfSome told (λ old. AsksFew config holds own old after)
-own_then config holds later_holds own None middle after same first later at = tt
-own_then config holds later_holds own (Some old) middle after same first later at =
+pub own_then : (command : Command) (config : Config) (holds later_holds : Option Tree) (told : Option (List (List ℕ))) (middle after : FolderState) → later_holds ≡ holds → IfSome holds (λ tree. Opens tree config command) → IfSome told (λ old. AsksOwn (own_file command config) old middle) → IfSome middle.asked (λ old. AsksNoPathTwice old after) → IfSome middle.asked (λ old. AsksFootprint config later_holds old after)
+    → IfSome told (λ old. AsksFew command config holds old after)
+own_then command config holds later_holds None middle after same opened first later at = tt
+own_then command config holds later_holds (Some old) middle after same opened first later at =
     let more : AsksNoPathTwice (old ++ first.first) after = subst (λ told. IfSome told (λ before. AsksNoPathTwice before after)) first.asked later in
     let looks : AsksFootprint config later_holds (old ++ first.first) after = subst (λ told. IfSome told (λ before. AsksFootprint config later_holds before after)) first.asked at in
     record {
@@ -68,19 +68,13 @@ own_then config holds later_holds own (Some old) middle after same first later a
       asked = more.asked ∙ ap Some (append_assoc old first.first more.more);
       once = more.once;
       of_footprint = subst (λ held. IfSome held (λ tree. All (IsLookedAt (get tree) config) more.more)) same (looks more.more more.asked);
+      opened = inr opened;
     }
 
 -- a write asks for nothing
-pub still_few : (config : Config) (holds : Option Tree) (own : List (List ℕ)) (told : Option (List (List ℕ))) (middle after : FolderState) → after.asked ≡ middle.asked → IfSome told (λ old. AsksFew config holds own old middle) → IfSome told (λ old. AsksFew config holds own old after)
-still_few config holds own told middle after still asks =
-    if_some told (λ old is. record { first = is.first; is_own = is.is_own; more = is.more; asked = still ∙ is.asked; once = is.once; of_footprint = is.of_footprint }) asks
-
-pub asks_nothing : (config : Config) (holds : Option Tree) (own : List (List ℕ)) (state : FolderState) → IfSome state.asked (λ old. AsksFew config holds own old state)
-asks_nothing config holds own state = by state.asked refl
-  where
-    by : (told : Option (List (List ℕ))) → state.asked ≡ told → IfSome told (λ old. AsksFew config holds own old state)
-    by None e = tt
-    by (Some old) e = record { first = []; is_own = inl refl; more = []; asked = e ∙ ap Some (sym (append-nil old)); once = distinct_none; of_footprint = no_more config holds }
+pub still_few : (command : Command) (config : Config) (holds : Option Tree) (told : Option (List (List ℕ))) (middle after : FolderState) → after.asked ≡ middle.asked → IfSome told (λ old. AsksFew command config holds old middle) → IfSome told (λ old. AsksFew command config holds old after)
+still_few command config holds told middle after still asks =
+    if_some told (λ old is. record { first = is.first; is_own = is.is_own; more = is.more; asked = still ∙ is.asked; once = is.once; of_footprint = is.of_footprint; opened = is.opened }) asks
 
 -- a command that writes the map's file generates a map
 pub generates : {command : Command} (keeps : Bool) → KeepsProject command keeps → IsGenerating command
@@ -113,10 +107,10 @@ module _ (config : Config) (before after : FolderState) where
     stopped_as Memory is = record { refused = tt; kind = tt; looks = looks_as before after (λ e. absurd (cc)) (λ e. absurd (cc)) is.looks }
 
     pub stopped : (stop : Stop) → Generating config before (Err stop) after → Prepares command config before (Err stop) after
-    stopped stop is = record { ready = tt; asked = asks_few config before.holds (own_file command config) before.asked after is.asked is.footprint; stopped = stopped_as stop is }
+    stopped stop is = record { ready = tt; asked = asks_few command config before.holds before.asked after opened is.asked is.footprint; stopped = stopped_as stop is }
 
-  pub lacks : (command : Command) (generated : Generated) → Generating config before (Ok generated) after → Prepares command config before (Err Memory) after
-  lacks command generated is = record { ready = tt; asked = asks_few config before.holds (own_file command config) before.asked after is.asked is.footprint; stopped = lacks_memory command (generated_looks generated is) }
+  pub lacks : (command : Command) → IfSome before.holds (λ tree. Opens tree config command) → (generated : Generated) → Generating config before (Ok generated) after → Prepares command config before (Err Memory) after
+  lacks command opened generated is = record { ready = tt; asked = asks_few command config before.holds before.asked after opened is.asked is.footprint; stopped = lacks_memory command (generated_looks generated is) }
 
   prepared_of : (command : Command) (tree : Tree) (generated : Generated) (prepared : Prepared) → HasCounts generated prepared → Writes tree config generated.map.items command (shown_files prepared) → IsMapOfTree tree config generated → IsPrepared command config tree prepared
   prepared_of command tree generated prepared counts wrote is = record {
@@ -132,14 +126,14 @@ module _ (config : Config) (before after : FolderState) where
     writes = subst (λ map. Writes tree config map command (shown_files prepared)) is.is_map.map wrote;
   }
 
-  pub ready : (command : Command) (generated : Generated) (prepared : Prepared) → PageIsFile config → Generating config before (Ok generated) after → HasCounts generated prepared → IfSome before.holds (λ tree. Writes tree config generated.map.items command (shown_files prepared)) → Prepares command config before (Ok prepared) after
-  ready command generated prepared is_file is counts wrote = record {
+  pub ready : (command : Command) → IfSome before.holds (λ tree. Opens tree config command) → (generated : Generated) (prepared : Prepared) → PageIsFile config → Generating config before (Ok generated) after → HasCounts generated prepared → IfSome before.holds (λ tree. Writes tree config generated.map.items command (shown_files prepared)) → Prepares command config before (Ok prepared) after
+  ready command opened generated prepared is_file is counts wrote = record {
     ready = record {
       is_prepared = if_two before.holds (λ tree writes_so is_generated. prepared_of command tree generated prepared counts writes_so is_generated) wrote is.generated;
       page_is_file = is_file;
       looks = generated_looks generated is;
     };
-    asked = asks_few config before.holds (own_file command config) before.asked after is.asked is.footprint;
+    asked = asks_few command config before.holds before.asked after opened is.asked is.footprint;
     stopped = tt;
   }
 
@@ -156,7 +150,7 @@ module _ (config : Config) (before after : FolderState) where
   map_writes _ keeps_project.refresh tree map = writes.refreshed
 
   module _ (command : Command) (keeps : Bool) (is_kept : KeepsProject command keeps) where
-    map_opens : IfSome before.holds (λ tree. Opens tree config command)
+    pub map_opens : IfSome before.holds (λ tree. Opens tree config command)
     map_opens = if_all before.holds (λ tree. opens.nothing command (is_mapping keeps is_kept))
 
     pub map_stopped : (stop : Stop) → Generating config before (Err stop) after → Prepares command config before (Err stop) after
@@ -164,13 +158,13 @@ module _ (config : Config) (before after : FolderState) where
 
     pub map_ready : (generated : Generated) (prepared : Prepared) → PageIsFile config → Generating config before (Ok generated) after → AreMapFiles config keeps generated prepared → Prepares command config before (Ok prepared) after
     map_ready generated prepared is_file is files =
-        ready command generated prepared is_file is files.counts
+        ready command map_opens generated prepared is_file is files.counts
         (if_all before.holds (λ tree. subst (λ some. Writes tree config generated.map.items command some) (sym files.files) (map_writes keeps is_kept tree generated.map.items)))
 
   -- ---- the page with the map
 
   module _ (page : List ℕ) (takes : TakesMaps page) (stands : IfSome before.holds (λ tree. IsPage tree config page)) where
-    page_opens : IfSome before.holds (λ tree. Opens tree config Inject)
+    pub page_opens : IfSome before.holds (λ tree. Opens tree config Inject)
     page_opens = if_some before.holds (λ tree is. opens.page page is takes) stands
 
     page_writes : (generated : Generated) (prepared : Prepared) → IsPageFile config page generated prepared → IfSome before.holds (λ tree. Writes tree config generated.map.items Inject (shown_files prepared))
@@ -181,7 +175,7 @@ module _ (config : Config) (before after : FolderState) where
     page_stopped stop is = stopped Inject tt page_opens stop is
 
     pub page_ready : (generated : Generated) (prepared : Prepared) → PageIsFile config → Generating config before (Ok generated) after → IsPageFile config page generated prepared → Prepares Inject config before (Ok prepared) after
-    page_ready generated prepared is_file is file = ready Inject generated prepared is_file is file.counts (page_writes generated prepared file)
+    page_ready generated prepared is_file is file = ready Inject page_opens generated prepared is_file is file.counts (page_writes generated prepared file)
 
 -- ---- behind the look at the page
 
@@ -194,17 +188,17 @@ module _ (config : Config) (before middle after : FolderState) where
   earlier_ready : (command : Command) (prepared : Prepared) → OnlyLooks before middle ⊥ → IsReady command config middle after prepared → IsReady command config before after prepared
   earlier_ready command prepared looks is = record { is_prepared = subst (λ held. IfSome held (λ tree. IsPrepared command config tree prepared)) looks.tree is.is_prepared; page_is_file = is.page_is_file; looks = looks_then before middle after (λ e. e) looks is.looks }
 
-  module _ (command : Command) (looks : OnlyLooks before middle ⊥) (asked : IfSome before.asked (λ old. AsksOwn (own_file command config) old middle)) (later : IfSome middle.asked (λ old. AsksNoPathTwice old after)) (at : IfSome middle.asked (λ old. AsksFootprint config middle.holds old after)) where
+  module _ (command : Command) (looks : OnlyLooks before middle ⊥) (asked : IfSome before.asked (λ old. AsksOwn (own_file command config) old middle)) (later : IfSome middle.asked (λ old. AsksNoPathTwice old after)) (at : IfSome middle.asked (λ old. AsksFootprint config middle.holds old after)) (opened : IfSome before.holds (λ tree. Opens tree config command)) where
     earlier : (result : Result Prepared Stop) → Prepares command config middle result after → Prepares command config before result after
-    earlier (Ok prepared) is = record { ready = earlier_ready command prepared looks is.ready; asked = own_then config before.holds middle.holds (own_file command config) before.asked middle after looks.tree asked later at; stopped = tt }
-    earlier (Err stop) is = record { ready = tt; asked = own_then config before.holds middle.holds (own_file command config) before.asked middle after looks.tree asked later at; stopped = earlier_end command stop looks is.stopped }
+    earlier (Ok prepared) is = record { ready = earlier_ready command prepared looks is.ready; asked = own_then command config before.holds middle.holds before.asked middle after looks.tree opened asked later at; stopped = tt }
+    earlier (Err stop) is = record { ready = tt; asked = own_then command config before.holds middle.holds before.asked middle after looks.tree opened asked later at; stopped = earlier_end command stop looks is.stopped }
 
   -- the page is where it was
   page_still : (page : List ℕ) → IsPageFound config before middle page → IfSome middle.holds (λ tree. IsPage tree config page)
   page_still page is = subst (λ held. IfSome held (λ tree. IsPage tree config page)) (sym is.looks.tree) is.is_page
 
-  pub page_prepared : (page : List ℕ) (result : Result Prepared Stop) → FindsPage config before (Ok page) middle → IfSome middle.asked (λ old. AsksNoPathTwice old after) → IfSome middle.asked (λ old. AsksFootprint config middle.holds old after) → (IfSome middle.holds (λ tree. IsPage tree config page) → Prepares Inject config middle result after) → Prepares Inject config before result after
-  page_prepared page result is asks at prepares = earlier Inject is.found.looks is.asked asks at result (prepares (page_still page is.found))
+  pub page_prepared : (page : List ℕ) (result : Result Prepared Stop) → TakesMaps page → FindsPage config before (Ok page) middle → IfSome middle.asked (λ old. AsksNoPathTwice old after) → IfSome middle.asked (λ old. AsksFootprint config middle.holds old after) → (IfSome middle.holds (λ tree. IsPage tree config page) → Prepares Inject config middle result after) → Prepares Inject config before result after
+  page_prepared page result takes is asks at prepares = earlier Inject is.found.looks is.asked asks at (page_opens config before middle page takes is.found.is_page) result (prepares (page_still page is.found))
 
 -- ---- the look at the page
 
@@ -216,7 +210,7 @@ no_memory bytes inject.Memory keeps = takes_or_keeps_out.no_memory [] bytes (kee
 
 module _ (config : Config) (before after : FolderState) where
   pub page_refused : (stop : Stop) → FindsPage config before (Err stop) after → Prepares Inject config before (Err stop) after
-  page_refused stop is = record { ready = tt; asked = own_alone config before.holds (config.page ∷ []) before.asked after is.asked; stopped = is.stopped }
+  page_refused stop is = record { ready = tt; asked = own_alone Inject config before.holds before.asked after is.asked; stopped = is.stopped }
 
   page_ends : (why : PageFault) → OnlyLooks before after ⊥ → IfSome before.holds (λ tree. RefusesPage tree config why) → IsOfPage why → EndsBefore Inject config before after (Refused (Page why))
   page_ends why looks why_not of = record {
@@ -230,7 +224,7 @@ module _ (config : Config) (before after : FolderState) where
       subst (λ s. Prepares Inject config before (Err s) after) (sym same)
       (record {
         ready = tt;
-        asked = own_alone config before.holds (config.page ∷ []) before.asked after is.asked;
+        asked = own_alone Inject config before.holds before.asked after is.asked;
         stopped = page_ends (KeepsMapsOut why) is.found.looks (if_some before.holds (λ tree stands. refuses_page.keeps_out page why stands keeps) is.found.is_page) (no_memory page why keeps);
       })
 

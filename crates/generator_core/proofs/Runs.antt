@@ -22,7 +22,7 @@ use Rattle.generator_spec.specs.Ending.{AreWritten, Ends}
 use Rattle.generator_spec.specs.Lines.{counts_line, memory_line, write_fault_line}
 use Rattle.generator_spec.specs.Asked.{AsksInOrder, AsksInOrder as asks_in_order, IsConfigAt}
 use Rattle.generator_core.specs.declared.prepared.Prepared.{Prepared}
-use Rattle.generator_spec.specs.Asked.{AsksOwn, AsksFew, own_file}
+use Rattle.generator_spec.specs.Asked.{AsksOwn, AsksFew}
 use Rattle.generator_core.specs.Preparing.{shown_files}
 use Rattle.generator_core.specs.Writing.{AreSome, EndsWriting, IsWriting, SaysWrite, SaysWrite as says_write, TellsNoMeaning, TellsNoMeaning as tells_text, TellsWords, WritesFiles, WritesFiles as writes_files}
 use Rattle.generator_core.proofs.Endings.{status_done, refusal_not_done, some_same}
@@ -72,12 +72,12 @@ project_asks words before after told asks = if_some told (λ old is. asks_in_ord
 
 pub config_asks :
     (words : List (List ℕ)) (command : Command) (config : Config) (before middle after : FolderState) (told : Option (List (List ℕ))) → IsConfigAt words command config before → middle.holds ≡ before.holds → IfSome told (λ old. AsksOwn (project_path ∷ []) old middle)
-    → IfSome middle.asked (λ old. AsksFew config middle.holds (own_file command config) old after) → IfSome told (λ old. AsksInOrder words before old after)
+    → IfSome middle.asked (λ old. AsksFew command config middle.holds old after) → IfSome told (λ old. AsksInOrder words before old after)
 config_asks words command config before middle after None is same asks later = tt
 config_asks words command config before middle after (Some old) is same asks later =
     asks_in_order.then asks.first asks.is_own command config is
-    (subst (λ held. AsksFew config held (own_file command config) (old ++ asks.first) after) same
-    (subst (λ told. IfSome told (λ before. AsksFew config middle.holds (own_file command config) before after)) asks.asked later))
+    (subst (λ held. AsksFew command config held (old ++ asks.first) after) same
+    (subst (λ told. IfSome told (λ before. AsksFew command config middle.holds before after)) asks.asked later))
 
 -- what each words give stands for all of them
 pub for_all_words : {W : Type 0} {Is : W → Type 0} (P : W → List (List ℕ) → Type 0) (told : Option (List (List ℕ))) → ((words : W) → Is words → IfSome told (P words)) → IfSome told (λ old. (words : W) → Is words → P words old)

@@ -2,7 +2,7 @@
 use Rattle.std.proofs.Common.{◌≡◌, ◌≢◌, ◌≤◌, ◌<◌, ◌⊎◌, ◌+◌, ◌++◌, [], ◌∷◌, ℕ, List, length, map, take, Option, Some, None, Result, Ok, Err, IfSome, refl, sym, ap, ◌∙◌, subst, inl, inr, arith}
 use Rattle.std.specs.FinMap.{get}
 use Rattle.std.specs.Prelude.{codes, option_map, Contains, true, false}
-use Rattle.tree_spec.proofs.ToldStates.{if_some, if_two, looks_as, looks_then}
+use Rattle.tree_spec.proofs.ToldStates.{if_all, if_some, if_two, looks_as, looks_then}
 use Rattle.tree_spec.specs.Counts.{Rose}
 use Rattle.tree_spec.specs.LookAskings.{Sights, footprint as paths_of}
 use Rattle.tree_spec.specs.declared.Entry.TheVariants.{Directory, Stored}
@@ -73,8 +73,8 @@ generates_of tree config found is = record {
 }
 
 module _ (to : List ℕ) (config : Config) (before middle : FolderState) (known later : Known) (fresh : IsFresh known) where
-  few : (result : Result Generated Stop) → Generating config before result middle → IfSome before.asked (λ old. AsksFew config before.holds [] old middle)
-  few result is = asks_few config before.holds [] before.asked middle is.asked is.footprint
+  few : (result : Result Generated Stop) → Generating config before result middle → IfSome before.asked (λ old. AsksFew Vendor config before.holds old middle)
+  few result is = asks_few Vendor config before.holds before.asked middle (if_all before.holds (λ tree. opens.nothing_first)) is.asked is.footprint
 
   stopped_by : (stop : Stop) → Generating config before (Err stop) middle → EndsCopies to config before middle stop
   stopped_by (Refused why) is = record {
@@ -117,6 +117,7 @@ module _ (to : List ℕ) (config : Config) (before middle : FolderState) (known 
             asked = same ∙ few.asked;
             once = few.once;
             of_footprint = few.of_footprint;
+            opened = few.opened;
           })
           | inr last ↦ asks.late has_map middle few last
         ])

@@ -135,5 +135,5 @@ pub record ChecksBy (command : Command) (config : Config) (before : FolderState)
 pub record Checks (command : Command) (config : Config) (before : FolderState) (result : Result Report Stop)
     (after : FolderState) : Type 0 where
   pub reported : IfOk result (λ report. IsReported command config before after report)
-  pub asked : IfSome before.asked (λ old. AsksFew config before.holds (map_path ∷ []) old after)
+  pub asked : IfSome before.asked (λ old. AsksFew command config before.holds old after)
   pub stopped : IfErr result (λ stop. EndsBefore command config before after stop)

@@ -101,7 +101,7 @@ pub record IsExplained (path : List ℕ) (config : Config) (before after : Folde
 pub record ExplainsFile (path : List ℕ) (config : Config) (before : FolderState) (result : Result Report Stop)
     (after : FolderState) : Type 0 where
   pub explained : IfOk result (IsExplained path config before after)
-  pub asked : IfSome before.asked (λ old. AsksFew config before.holds [] old after)
+  pub asked : IfSome before.asked (λ old. AsksFew Why config before.holds old after)
   pub stopped : IfErr result (EndsBefore Why config before after)
 
 -- ---- the run
@@ -111,6 +111,6 @@ pub record RunsWhy (path : List ℕ) (config : Config) (before after : FolderSta
   pub end :
       (words : List (List ℕ)) → AsksWhy words path → IsConfigAt words Why config before
       → EndsAs words before after out out_after result
-  pub asked : IfSome before.asked (λ old. AsksFew config before.holds [] old after)
+  pub asked : IfSome before.asked (λ old. AsksFew Why config before.holds old after)
   pub spends : CommandSpends (IsGenerating Why) out out_after result steps later
   pub by_trace : FitsTrace Why config before.holds steps later

@@ -34,5 +34,5 @@ pub record IsListed (config : Config) (before after : FolderState) (report : Rep
 pub record Lists (config : Config) (before : FolderState) (result : Result Report Stop)
     (after : FolderState) : Type 0 where
   pub listed : IfOk result (IsListed config before after)
-  pub asked : IfSome before.asked (λ old. AsksFew config before.holds [] old after)
+  pub asked : IfSome before.asked (λ old. AsksFew ListModules config before.holds old after)
   pub stopped : IfErr result (EndsBefore ListModules config before after)

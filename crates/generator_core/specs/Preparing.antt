@@ -27,7 +27,7 @@ use Rattle.generator_spec.specs.Commands.{IsPage, Refuses, IsRefusalOf, map_path
 use Rattle.generator_spec.specs.Commands.{map_and_project, Writes}
 use Rattle.generator_spec.specs.Generation.{PageIsFile, map_base}
 use Rattle.generator_spec.specs.Digests.{with_digests}
-use Rattle.generator_spec.specs.Asked.{AsksOwn, AsksFew, own_file}
+use Rattle.generator_spec.specs.Asked.{AsksOwn, AsksFew}
 use Rattle.generation.specs.declared.generated.Generated.{Generated}
 use Rattle.generation.specs.declared.stop.Stop.{Stop}
 use Rattle.generation.specs.declared.stop.Stop.TheVariants.{ReadFault}
@@ -112,5 +112,5 @@ pub record IsReady (command : Command) (config : Config) (before after : FolderS
 pub record Prepares (command : Command) (config : Config) (before : FolderState) (result : Result Prepared Stop)
     (after : FolderState) : Type 0 where
   pub ready : IfOk result (λ prepared. IsReady command config before after prepared)
-  pub asked : IfSome before.asked (λ old. AsksFew config before.holds (own_file command config) old after)
+  pub asked : IfSome before.asked (λ old. AsksFew command config before.holds old after)
   pub stopped : IfErr result (λ stop. EndsBefore command config before after stop)

@@ -6,7 +6,7 @@ use Rattle.std.specs.Prelude.{ℕ, List, IfSome}
 use Rattle.tree_spec.specs.States.{FolderState, SinkState}
 use Rattle.trace_spec.specs.Modules.{Config}
 use Rattle.config_spec.specs.declared.Command.{Command}
-use Rattle.generator_spec.specs.Asked.{IsConfigAt, AsksFew, own_file}
+use Rattle.generator_spec.specs.Asked.{IsConfigAt, AsksFew}
 use Rattle.generator_spec.specs.Ending.{EndsAs}
 use Rattle.generator_core.specs.Spending.{FitsTrace, OrderSpends}
 
@@ -15,6 +15,6 @@ pub record RunsCommand (command : Command) (config : Config) (before after : Fol
   pub end :
       (words : List (List ℕ)) → IsConfigAt words command config before
       → EndsAs words before after out out_after result
-  pub asked : IfSome before.asked (λ old. AsksFew config before.holds (own_file command config) old after)
+  pub asked : IfSome before.asked (λ old. AsksFew command config before.holds old after)
   pub spends : OrderSpends command out out_after result steps later
   pub by_trace : FitsTrace command config before.holds steps later

@@ -104,9 +104,9 @@ pub record EndsCopies (to : List ℕ) (config : Config) (before after : FolderSt
 -- for what the generation needs, and behind that for the folder of the copies, where there is a map
 pub data AsksCopies (to : List ℕ) (config : Config) (before : FolderState) (old : List (List ℕ)) (after : FolderState)
     : Type 0 where
-  early : AsksFew config before.holds [] old after → AsksCopies to config before old after
+  early : AsksFew Vendor config before.holds old after → AsksCopies to config before old after
   late :
-      HasMap config before.holds → (middle : FolderState) → AsksFew config before.holds [] old middle
+      HasMap config before.holds → (middle : FolderState) → AsksFew Vendor config before.holds old middle
       → after.asked ≡ option_map (λ paths. paths ++ to ∷ []) middle.asked → AsksCopies to config before old after
 
 pub record PreparesCopies (to : List ℕ) (config : Config) (before : FolderState) (result : Result Copies Stop)

@@ -1,9 +1,10 @@
 -- What a run asks its folder for, where the folder tells it. own: no public standard speaks of it.
 --     own_file command config      the path of the file that the command needs before its trace
 --     AsksOwn own old after      the folder was asked for these paths, or for nothing
---     AsksFew config holds own old after      and then for further paths, for none of them twice, at which in a told
---                              tree its trace looks up to where it ends: where a limit ends it, up to the look that
---                              passes the limit
+--     AsksFew command config holds old after      for the command's own file or not, and then for further paths, for none
+--                              of them twice, at which in a told tree its trace looks up to where it ends: where a
+--                              limit ends it, up to the look that passes the limit; for none where the file refuses the
+--                              command
 --     IsConfigAt words command config state      a told tree gives the words this config; whatever is told, they can
 --                              have it
 --     HasMap config holds      a map is generated for the config, where the tree is told
@@ -22,7 +23,7 @@ use Rattle.config_spec.specs.declared.Command.TheVariants.{Vendor}
 use Rattle.config_spec.specs.declared.Command.TheVariants.{List as Lists}
 use Rattle.config_spec.specs.Projects.{project_path, IsConfigOf, IsConfigFor}
 use Rattle.config_spec.specs.Words.{VendorsTo}
-use Rattle.generator_spec.specs.Commands.{map_path}
+use Rattle.generator_spec.specs.Commands.{map_path, Opens}
 use Rattle.generator_spec.specs.Generation.{Generates}
 
 abbrev pub own_file : Command → Config → List (List ℕ)
@@ -42,14 +43,15 @@ pub record AsksOwn (own old : List (List ℕ)) (after : FolderState) : Type 0 wh
   pub asked : after.asked ≡ Some (old ++ first)
 
 -- own: the command's own file may be among the further paths too
-pub record AsksFew (config : Config) (holds : Option Tree) (own old : List (List ℕ))
+pub record AsksFew (command : Command) (config : Config) (holds : Option Tree) (old : List (List ℕ))
     (after : FolderState) : Type 0 where
   pub first : List (List ℕ)
-  pub is_own : (first ≡ []) ⊎ (first ≡ own)
+  pub is_own : (first ≡ []) ⊎ (first ≡ own_file command config)
   pub more : List (List ℕ)
   pub asked : after.asked ≡ Some (old ++ (first ++ more))
   pub once : IsDistinct bytes_eq more
   pub of_footprint : IfSome holds (λ tree. All (IsLookedAt (get tree) config) more)
+  pub opened : (more ≡ []) ⊎ IfSome holds (λ tree. Opens tree config command)
 
 pub record IsConfigAt (words : List (List ℕ)) (command : Command) (config : Config) (state : FolderState) : Type 0 where
   pub told : IfSome state.holds (λ tree. IsConfigOf words tree command config)
@@ -67,9 +69,9 @@ pub data AsksInOrder (words : List (List ℕ)) (before : FolderState) (old : Lis
   then :
       (first : List (List ℕ)) → (first ≡ []) ⊎ (first ≡ project_path ∷ []) → (command : Command) (config : Config)
       → IsConfigAt words command config before
-      → AsksFew config before.holds (own_file command config) (old ++ first) after → AsksInOrder words before old after
+      → AsksFew command config before.holds (old ++ first) after → AsksInOrder words before old after
   behind :
       (first : List (List ℕ)) → (first ≡ []) ⊎ (first ≡ project_path ∷ []) → (to : List ℕ) (config : Config)
       → VendorsTo words to → IsConfigAt words Vendor config before → HasMap config before.holds
-      → (middle : FolderState) → AsksFew config before.holds (own_file Vendor config) (old ++ first) middle
+      → (middle : FolderState) → AsksFew Vendor config before.holds (old ++ first) middle
       → after.asked ≡ option_map (λ paths. paths ++ to ∷ []) middle.asked → AsksInOrder words before old after

@@ -1,8 +1,8 @@
 -- How many steps an edit takes. own.
 --     IsFreshFor tree config later question   the question wasn't asked for the trace of the tree and the config, or
 --                                     something changed at its footprint
---     TakesFresh tree config later other from to      no more steps than the trace of the later tree and the other config
---                                     asks questions that are fresh so, until it ends
+--     TakesFresh tree config later other from to      no more steps than there are questions that are fresh so among
+--                                     those of the trace of the later tree and the other config until it ends
 --     IsFrugal state edit from to     so it is with what an edit leaves of a state
 use Rattle.std.specs.Prelude.{◌≡◌, ◌≤◌, ◌+◌, ℕ, Bool, true, List, length, filter, Contains, Some, Ok, OnErr}
 use Rattle.std.specs.FinMap.{get}

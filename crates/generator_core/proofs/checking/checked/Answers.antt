@@ -23,9 +23,11 @@ returns-clause-checks g c = λ command asks.
     let middle = g.F.Folder.state c.map_text.new.folder in
     let after = g.F.Folder.state c.checked_by.new.folder in
     let found = subst (λ r. FindsMapText before r middle) c.in-Ok.is c.map_text.ensures in
-    checks_behind command c.args.config.now before middle after c.in-Ok.text c.checked_by.result found
+    let reads = (subst (λ r. FindsMap c.args.config.now c.in-Ok.text r) c.in-Ok-map_of.is (subst (λ t. FindsMap c.args.config.now t c.map_of.result) c.as_slice.ensures c.map_of.ensures)).reads in
+    checks_behind command c.args.config.now before middle after (asks_checking command c.args.strictly asks) c.in-Ok.text
+    c.in-Ok-map_of.parsed c.checked_by.result reads found
     (c.checked_by.ensures.checks (text_still c.args.config.now before middle c.in-Ok.text c.in-Ok-map_of.parsed found
-    (subst (λ r. FindsMap c.args.config.now c.in-Ok.text r) c.in-Ok-map_of.is (subst (λ t. FindsMap c.args.config.now t c.map_of.result) c.as_slice.ensures c.map_of.ensures)).reads) command asks)
+    reads) command asks)
 
 pub returns-in-Err-clause-by_trace : goal.returns-in-Err-clause-by_trace
 returns-in-Err-clause-by_trace g c = λ command asking. unspent_fits command c.args.config.now (g.F.Folder.state c.args.folder.now).holds c.args.steps.now

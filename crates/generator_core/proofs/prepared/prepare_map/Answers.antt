@@ -1,6 +1,6 @@
 use Rattle.std.proofs.Common.{subst}
 use Rattle.generation.specs.Generating.{Generating}
-use Rattle.generator_core.proofs.Preparings.{lacks, map_stopped, map_ready}
+use Rattle.generator_core.proofs.Preparings.{lacks, map_opens, map_stopped, map_ready}
 use Rattle.generator_core.proofs.prepared.prepare_map.Goals as goal
 
 pub returns-in-Err-clause-prepares : goal.returns-in-Err-clause-prepares
@@ -13,7 +13,7 @@ pub returns-in-Err-map_files-clause-prepares : goal.returns-in-Err-map_files-cla
 returns-in-Err-map_files-clause-prepares g c =
     let before = g.F.Folder.state c.args.folder.now in
     let after = g.F.Folder.state c.generate.new.folder in
-    λ command kept. lacks c.args.config.now before after command c.in-Ok.generated (subst (λ r. Generating c.args.config.now before r after) c.in-Ok.is c.generate.ensures.generates)
+    λ command kept. lacks c.args.config.now before after command (map_opens c.args.config.now before after command c.args.keeps kept) c.in-Ok.generated (subst (λ r. Generating c.args.config.now before r after) c.in-Ok.is c.generate.ensures.generates)
 
 pub returns-in-Ok-map_files-clause-prepares : goal.returns-in-Ok-map_files-clause-prepares
 returns-in-Ok-map_files-clause-prepares g c =

@@ -25,7 +25,7 @@ returns-clause-prepares g c =
     let middle = g.F.Folder.state c.page_of.new.folder in
     let after = g.F.Folder.state c.prepare_at.new.folder in
     let same = c.in-Ok-site_of.ensures.page in
-    page_prepared c.args.config.now before middle after c.in-Ok.page c.prepare_at.result (subst (λ r. FindsPage c.args.config.now before r middle) c.in-Ok.is c.page_of.ensures) c.prepare_at.ensures.asked.once c.prepare_at.ensures.asked.footprint
+    page_prepared c.args.config.now before middle after c.in-Ok.page c.prepare_at.result (subst TakesMaps (c.as_slice.ensures) c.in-Ok-site_of.ensures.takes) (subst (λ r. FindsPage c.args.config.now before r middle) c.in-Ok.is c.page_of.ensures) c.prepare_at.ensures.asked.once c.prepare_at.ensures.asked.footprint
     (λ stands. c.prepare_at.ensures.prepares (subst TakesMaps (sym same) c.in-Ok-site_of.ensures.takes)
     (subst (λ b. IfSome middle.holds (λ tree. IsPage tree c.args.config.now b)) (sym (same ∙ c.as_slice.ensures)) stands))
 

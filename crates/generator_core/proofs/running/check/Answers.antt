@@ -3,7 +3,6 @@ use Rattle.tree_spec.specs.declared.LimitName.TheVariants.{Modules, Requests}
 use Rattle.tree_spec.specs.Limits.{limit_number}
 use Rattle.config_spec.specs.declared.Command.{Command}
 use Rattle.config_spec.specs.declared.Command.TheVariants.{CheckStrictly}
-use Rattle.generator_spec.specs.Asked.{AsksFew, own_file}
 use Rattle.generator_spec.specs.Commands.{map_path}
 use Rattle.generator_spec.specs.Ending.{Ends}
 use Rattle.generator_spec.proofs.Strictnesses.{checking_or_generating}
@@ -39,15 +38,6 @@ check_spends command strictly out out_after result steps later asking bounded = 
   strictly = more_steps command strictly steps later asking bounded;
 }
 
--- the map's file is the command's own
-file_asked :
-    (command : Command) (strictly : Bool) (config : Config) (holds : Option Tree) (told : Option (List (List ℕ)))
-    (after : FolderState) → AsksGrammar command strictly
-    → IfSome told (λ old. AsksFew config holds (map_path ∷ []) old after)
-    → IfSome told (λ old. AsksFew config holds (own_file command config) old after)
-file_asked command strictly config holds told after asks.plainly asked = asked
-file_asked command strictly config holds told after asks.strictly asked = asked
-
 pub returns-in-Ok : goal.returns-in-Ok
 returns-in-Ok g c = λ command asking.
     let before = g.F.Folder.state c.args.folder.now in
@@ -55,7 +45,7 @@ returns-in-Ok g c = λ command asking.
     let checks = c.checked.ensures.checks command asking in
     record {
       end = λ words is_config. check_ends words command c.args.config.now _ _ _ _ _ c.in-Ok.report is_config (subst (λ r. Checks command c.args.config.now before r after) c.in-Ok.is checks).reported (subst (λ text. Ends c.in-Ok.report.status text (g.O.Sink.state c.args.out.now) (g.O.Sink.state c.tell.new.out) c.tell.result) c.as_slice.ensures.value c.tell.ensures.ends) c.tell.ensures.later;
-      asked = file_asked command c.args.strictly c.args.config.now before.holds before.asked after asking checks.asked;
+      asked = checks.asked;
       spends = check_spends command c.args.strictly _ _ _ _ _ asking c.checked.ensures.bounded;
       by_trace = c.checked.ensures.by_trace command asking;
     }
@@ -67,7 +57,7 @@ returns-in-Err g c = λ command asking.
     let checks = c.checked.ensures.checks command asking in
     record {
       end = λ words is_config. stop_end words command c.args.config.now _ _ _ _ _ is_config c.in-Err.stop (subst (λ r. Checks command c.args.config.now before r after) c.in-Err.is checks).stopped c.close.ensures.tells c.close.ensures.later;
-      asked = file_asked command c.args.strictly c.args.config.now before.holds before.asked after asking checks.asked;
+      asked = checks.asked;
       spends = check_spends command c.args.strictly _ _ _ _ _ asking c.checked.ensures.bounded;
       by_trace = c.checked.ensures.by_trace command asking;
     }

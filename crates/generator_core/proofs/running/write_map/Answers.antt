@@ -2,7 +2,6 @@ use Rattle.std.proofs.Common.{ℕ, subst}
 use Rattle.std.specs.Prelude.{⊤}
 use Rattle.tree_spec.specs.States.{SinkState}
 use Rattle.config_spec.specs.declared.Command.{Command}
-use Rattle.generator_spec.specs.Asked.{own_file}
 use Rattle.generator_spec.specs.Commands.{IsGenerating}
 use Rattle.generator_core.specs.Preparing.{Prepares}
 use Rattle.generator_core.specs.Spending.{CommandSpends}
@@ -20,7 +19,7 @@ returns-in-Ok g c =
     λ command kept.
     record {
       end = λ words is_config. write_end words command c.args.config.now _ _ _ _ _ _ c.in-Ok.prepared (counts c.args.keeps kept) is_config (subst (λ r. Prepares command c.args.config.now (g.F.Folder.state c.args.folder.now) r (g.F.Folder.state c.prepare_map.new.folder)) c.in-Ok.is (c.prepare_map.ensures.prepares command kept)).ready c.finish.ensures;
-      asked = still_few c.args.config.now (g.F.Folder.state c.args.folder.now).holds (own_file command c.args.config.now) _ (g.F.Folder.state c.prepare_map.new.folder) _ c.finish.ensures.asked (c.prepare_map.ensures.prepares command kept).asked;
+      asked = still_few command c.args.config.now (g.F.Folder.state c.args.folder.now).holds _ (g.F.Folder.state c.prepare_map.new.folder) _ c.finish.ensures.asked (c.prepare_map.ensures.prepares command kept).asked;
       spends = order_spends command _ _ _ _ _ (any_command command _ _ _ _ _ (done_spends c.in-Ok.prepared _ _ _ _ _ _ _ c.finish.ensures (rw c.in-Ok.is at c.prepare_map.ensures.steps)));
       by_trace = fits_to_end command c.args.config.now (g.F.Folder.state c.args.folder.now).holds _ _ c.prepare_map.ensures.to_end;
     }

@@ -1,8 +1,4 @@
-use Rattle.std.proofs.Common.{refl, ◌∙◌, sym, subst}
-use Rattle.kept_trace.specs.declared.kept.Kept.{Kept}
-use Rattle.generation.specs.Generating.{IfSeen}
-use Rattle.edit_session.specs.KeptAnswers.{AreAnswersOf}
-use Rattle.edit_session.specs.Mapping.{IsKeptFor}
+use Rattle.std.proofs.Common.{refl}
 use Rattle.kept_trace.specs.Ready.{is_anew}
 use Rattle.edit_session.proofs.FrugalEdits.{opens_to_end}
 use Rattle.edit_session.proofs.MapsAgain.{right_empty}
