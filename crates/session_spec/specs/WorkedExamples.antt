@@ -237,7 +237,8 @@ pub record FrugalExamples : Type 0 where
   -- a module of which other bytes stand there is
   pub other_bytes :
       (tree later : Tree) (config : Config) → get tree (codes "/m.mjs") ≡ Some (Stored [])
-      → get later (codes "/m.mjs") ≡ Some (Stored (codes "1")) → IsFreshFor tree config later (of_module (codes "/m.mjs"))
+      → get later (codes "/m.mjs") ≡ Some (Stored (codes "1"))
+      → IsFreshFor tree config later (of_module (codes "/m.mjs"))
   -- what can't be unlinked takes no step
   pub refused :
       (state : SessionState) (from to : ℕ) → state.config.entries ≡ texts ("./app.mjs" ∷ [])
