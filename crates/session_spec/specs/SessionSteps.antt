@@ -6,8 +6,8 @@
 --     most_steps                      how many steps a generation takes, at most
 --     SpendsFor input before after    as many at most as one generation takes for each such edit to which the input
 --                                     comes
---     SpendsAt first input before at spent    of a told tree: so many may be taken where the session stands there; first,
---                                     before: its state and the steps at its beginning
+--     SpendsAt first input before at spent    of a told tree: so many may be taken where the session stands there;
+--                                     first, before: its state and its steps at the beginning
 --     EditsSpend first input before after     so it is somewhere, or while an edit is made to which the input comes
 --     SpendsOn tree taken before after        the same with the opening on this tree, as far as the limit allows
 --     SessionSpends holds taken before after  as many at most as one generation takes for the opening and for each such
