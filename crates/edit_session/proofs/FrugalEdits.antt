@@ -12,8 +12,9 @@ use Rattle.tree_spec.proofs.ToldStates.{if_some, if_all}
 use Rattle.tree_spec.specs.LookAskings.{Sights}
 use Rattle.tree_spec.specs.States.{FolderState}
 use Rattle.tree_spec.specs.Trees.{Tree}
+use Rattle.trace_spec.specs.Laws.{asked_by_end}
 use Rattle.trace_spec.specs.Modules.{Config}
-use Rattle.trace_spec.specs.Questions.{always}
+use Rattle.trace_spec.specs.Questions.{Question, always}
 use Rattle.trace_spec.specs.Traces.{trace}
 use Rattle.package_lookup.proofs.Laying.{laid_is_seen, nothing_kept, nothing_laid}
 use Rattle.package_lookup.specs.Looked.{kept_at, laid_at, Sees}
