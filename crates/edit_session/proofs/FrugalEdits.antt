@@ -2,16 +2,26 @@
 --     takes_fresh          those of a trace by the answers of the state
 --     frugal               and of an edit whose changes are made
 --     frugal_nothing       where nothing is traced
-use Rattle.std.proofs.Common.{◌≡◌, ◌≤◌, ◌+◌, ℕ, false, List, Result, Ok, Err, sym, ◌∙◌, subst, arith}
-use Rattle.std.specs.Prelude.{OnErr, length, filter}
+--     opens_to_end, opens_nothing      those of the opening
+use Rattle.std.proofs.Common.{◌≡◌, ◌≤◌, ◌+◌, ◌∷◌, [], ℕ, Bool, true, false, List, Option, None, Result, Ok, Err, sym, ◌∙◌, subst, arith}
+use Rattle.std.specs.Prelude.{OnErr, length, filter, cond, Some}
 use Rattle.std.specs.FinMap.{get}
 use Rattle.std.proofs.lemmas.Option.{same_Some}
 use Rattle.asking_spec.specs.Askings.{questions}
+use Rattle.tree_spec.proofs.ToldStates.{if_some, if_all}
+use Rattle.tree_spec.specs.LookAskings.{Sights}
+use Rattle.tree_spec.specs.States.{FolderState}
 use Rattle.tree_spec.specs.Trees.{Tree}
+use Rattle.trace_spec.specs.Laws.{asked_by_end}
 use Rattle.trace_spec.specs.Modules.{Config}
-use Rattle.trace_spec.specs.Questions.{always}
+use Rattle.trace_spec.specs.Questions.{Question, always}
 use Rattle.trace_spec.specs.Traces.{trace}
-use Rattle.request_trace.specs.Tracing.{StepsByFresh}
+use Rattle.package_lookup.proofs.Laying.{laid_is_seen, nothing_kept, nothing_laid}
+use Rattle.package_lookup.specs.Looked.{kept_at, laid_at, Sees}
+use Rattle.package_lookup.specs.declared.known.Known.{Known}
+use Rattle.request_trace.specs.Answering.{Freshness}
+use Rattle.request_trace.specs.Tracing.{StepsByFresh, TakesFreshSteps}
+use Rattle.generation.specs.Generating.{StepsToEnd}
 use Rattle.kept_trace.specs.Ready.{is_anew}
 use Rattle.kept_trace.specs.Tracing.{FreshIsByTrees}
 use Rattle.kept_trace.specs.declared.kept.Kept.{Kept}
@@ -19,7 +29,7 @@ use Rattle.session_spec.specs.declared.Change.{Change}
 use Rattle.session_spec.specs.declared.EditFault.{EditFault}
 use Rattle.session_spec.specs.Edits.{Draft, edited}
 use Rattle.session_spec.specs.SessionStates.{SessionState, draft_of, config_with}
-use Rattle.edit_session.specs.Frugality.{TakesFresh, IsFrugal}
+use Rattle.session_spec.specs.Frugality.{TakesFresh, IsFrugal}
 use Rattle.edit_session.specs.KeptAnswers.{AreAnswersOf}
 
 pub takes_fresh : FreshIsByTrees → (kept : Kept) (tree : Tree) (config : Config) → AreAnswersOf kept tree config
@@ -73,3 +83,34 @@ frugal law kept state answers edit draft made from to taken = record {
       taken);
   refused = unrefused (to ≡ from) draft (edited (draft_of state) edit) made;
 }
+
+-- ---- the opening
+
+fewer : {Q : Type 0} (test : Q → Bool) (asked : List Q) → length (filter test asked) ≤ length asked
+fewer test [] = omega arith
+fewer {Q} test (question ∷ asked) = one (test question) (fewer test asked)
+  where
+    one : (passes : Bool) → length (filter test asked) ≤ length asked
+        → length (cond passes (question ∷ filter test asked) (filter test asked)) ≤ length (question ∷ asked)
+    one true few = omega (arith, few)
+    one false few = omega (arith, few)
+
+-- where nothing is known, each path is seen as it stands in the tree
+pub opens_to_end : (is_fresh : Freshness) (config : Config) (before : FolderState) (known : Known)
+    → ((path : List ℕ) → kept_at known path ≡ None) → ((path : List ℕ) → laid_at known path ≡ None) → (from to : ℕ)
+    → TakesFreshSteps is_fresh config before known from to → StepsToEnd config before.holds from to
+opens_to_end is_fresh config before known none_kept none_laid from to takes =
+    if_some
+    {P = λ tree. (sights : Sights) → Sees tree known sights → StepsByFresh is_fresh sights config from to}
+    {Q = λ tree. (asked : List Question) → asked_by_end (get tree) config ≡ Some asked → to ≤ from + length asked}
+    before.holds
+    (λ tree each asked are.
+    let here = each (get tree)
+    (laid_is_seen tree tree known (nothing_kept tree known none_kept) (nothing_laid tree known.laid none_laid)) in
+    let few = fewer (is_fresh (get tree)) here.asked in
+    let steps = here.steps in
+    subst (λ (questions : List Question). to ≤ from + length questions) (same_Some here.asked asked (sym here.are ∙ are))
+    (omega (arith, few, steps))) takes
+
+pub opens_nothing : (config : Config) (told : Option Tree) (steps : ℕ) → StepsToEnd config told steps steps
+opens_nothing config told steps = if_all told (λ tree. λ asked are. omega arith)

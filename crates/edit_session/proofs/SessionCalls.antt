@@ -45,7 +45,7 @@ use Rattle.edit_session.specs.Mapping.{IsKeptFor}
 use Rattle.edit_session.specs.NewLooks.{AsksNew, AsksKept, LooksNew}
 use Rattle.edit_session.specs.SessionTrees.{counts_in, IsSessionOf, IsStateThen, kept_then}
 use Rattle.edit_session.specs.Sessions.{IsOpened, OpensSession, IfRefused, StopsEdit, Accepts, Prepares, BecomesBy, Commits}
-use Rattle.edit_session.specs.Frugality.{IsFrugal}
+use Rattle.session_spec.specs.Frugality.{IsFrugal}
 use Rattle.edit_session.specs.Steps.{MakesNext, IsStep, TakesFreshOf}
 use Rattle.edit_session.specs.SessionParts.{Parts, IsPartsOf, parts_of}
 use Rattle.edit_session.specs.declared.session.Pending.{Pending}

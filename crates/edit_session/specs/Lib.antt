@@ -1,6 +1,5 @@
 pub mod Agreement
 pub mod KeptAnswers
-pub mod Frugality
 pub mod SessionTrees
 pub mod SessionParts
 pub mod NewLooks

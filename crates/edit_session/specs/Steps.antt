@@ -25,7 +25,7 @@ use Rattle.session_spec.specs.EditLooks.{IsEditLook}
 use Rattle.session_spec.specs.Replies.{IsAccepted}
 use Rattle.session_spec.specs.SessionStates.{SessionState, config_with, IsGenerated}
 use Rattle.kept_trace.specs.declared.kept.Kept.{Kept}
-use Rattle.edit_session.specs.Frugality.{IsFrugal}
+use Rattle.session_spec.specs.Frugality.{IsFrugal}
 use Rattle.edit_session.specs.KeptAnswers.{AreAnswersOf}
 use Rattle.edit_session.specs.LooksOn.{LooksOn}
 use Rattle.edit_session.specs.Mapping.{IsKeptFor}

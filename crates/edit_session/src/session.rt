@@ -67,8 +67,9 @@ pub(crate) struct Pending {
 }
 
 impl Session {
+    ghost use Rattle.generation.specs.Generating.{StepsToEnd};
     ghost use Rattle.session_spec.specs.SessionStates.{SessionState};
-    ghost use Rattle.edit_session.specs.Frugality.{IsFrugal};
+    ghost use Rattle.session_spec.specs.Frugality.{IsFrugal};
     ghost use Rattle.edit_session.specs.SessionTrees.{IsSessionOf, shown_map, shown_counts, counts_told};
     ghost use Rattle.edit_session.specs.SessionTrees.{steps_of, pending_steps};
     ghost use Rattle.edit_session.specs.SessionParts.{pending_over};
@@ -84,6 +85,7 @@ impl Session {
     ) -> Result<Session, Stop>
         ensures opens { OpensSession config (F.state folder.old) result (F.state folder.new) }
         ensures steps { TakesSteps result (λ session. steps_of session.generated) steps.old steps.new }
+        ensures by_trace { StepsToEnd config (F.state folder.old).holds steps.old steps.new }
     {
         match TraceAnswers::new(alloc, config.conditions()) {
             Err(_) => Err(Stop::Memory),
@@ -102,6 +104,7 @@ impl Session {
         requires { IsEmptyUnder config.conditions answers.kept }
         ensures opens { OpensSession config (F.state folder.old) result (F.state folder.new) }
         ensures steps { TakesSteps result (λ session. steps_of session.generated) steps.old steps.new }
+        ensures by_trace { StepsToEnd config (F.state folder.old).holds steps.old steps.new }
     {
         let mut answers = answers;
         let mut known = Known::new(alloc);

@@ -35,6 +35,7 @@ use Rattle.session_spec.specs.SessionRuns.{RepliesTo as replies_to}
 use Rattle.session_spec.specs.Openings.{refresh_words, CanOpen}
 use Rattle.session_spec.specs.SessionLooks.{IsSessionLook, AsksFresh, AsksWithin}
 use Rattle.session_spec.specs.SessionRuns.{StatesServe, NoFault, RepliesTo, RepliesToAll, SessionComesTo, SessionSays, SessionStops, SessionEnds}
+use Rattle.session_spec.specs.SessionSteps.{SpendsOn}
 use Rattle.session_spec.proofs.SessionSpending.{none_spent}
 use Rattle.session_spec.proofs.TakenFronts.{no_take}
 use Rattle.session_spec.specs.TakenInput.{NoTake}
@@ -108,7 +109,10 @@ ends_before before middle after source later out gone result spent spent_after l
       few = is.few;
       awaited = is.awaited;
       opened = of_before before middle after looked.tree quiet source later is.taken (λ tree. NoTake source is.taken later ⊎ CanOpen tree) is.opened;
-      steps = is.steps;
+      steps = record {
+        most = is.steps.most;
+        fresh = of_before before middle after looked.tree quiet source later is.taken (λ tree. SpendsOn tree is.taken spent spent_after) is.steps.fresh;
+      };
       asked = asks_both is.taken middle.holds before.holds looked.tree middle after before.asked own held.fresh;
       stops = stops_before before middle after looked.tree quiet source later is.taken out gone result is.stops;
       serves = of_before before middle after looked.tree quiet source later is.taken (λ tree. StatesServe tree is.taken) is.serves;
@@ -138,7 +142,7 @@ module _ (before after : FolderState) (source : SourceState) (out gone : SinkSta
     awaited = none_awaited source;
     opened = if_all before.holds (λ tree. inl (no_take source));
     asked = if_some before.asked (λ old is. record { first = is.first; is_first = is.is_own; then = nothing_fresh before.holds after (old ++ is.first) is.asked }) own;
-    steps = none_spent [] spent;
+    steps = none_spent before.holds [] spent;
     stops = stops;
     serves = if_all before.holds (λ tree. session_maps_serve tree []);
   }

@@ -13,6 +13,7 @@ use Rattle.trace_spec.specs.Modules.{Config}
 use Rattle.session_spec.specs.declared.Change.{Change}
 use Rattle.session_spec.specs.EditLooks.{IsEditLook}
 use Rattle.session_spec.specs.Edits.{Draft, edited}
+use Rattle.session_spec.specs.Frugality.{IsFrugal}
 use Rattle.session_spec.specs.declared.EditFault.{EditFault}
 use Rattle.session_spec.specs.Replies as replies
 use Rattle.session_spec.specs.Replies.{IsRefused, IsAccepted, Follows, Replies, fault_line, accepted_line}
@@ -29,7 +30,7 @@ use Rattle.edit_session.specs.declared.session.Session.{Session}
 use Rattle.edit_session.specs.declared.stop.EditStop.{EditStop}
 use Rattle.edit_session.specs.declared.stop.EditStop.TheVariants as stop
 use Rattle.session_talk.specs.EditorLooks.{LookState, AsksUnkept, AsksAndKeeps, AsksSome, AsksKeeping, EditAsks}
-use Rattle.session_talk.specs.Editors.{EditorState, AsksFor, Seen, IsReplied, EditsTold, Comes, Edits, Shows}
+use Rattle.session_talk.specs.Editors.{EditorState, AsksFor, Seen, IsReplied, EditsTold, Comes, EditSpends, Edits, Shows}
 use Rattle.session_talk.specs.declared.editor.EditorFault.{EditorFault}
 use Rattle.session_talk.specs.declared.editor.EditorFault.TheVariants.{ReadFault, Memory}
 use Rattle.session_talk.proofs.AskLemmas.{some_of_keeping}
@@ -65,12 +66,23 @@ replies_accepted state next edit line is =
     (subst (λ (made : Result Draft EditFault). Follows state made (next_state state (draft_of next) next.map next.counts) (accepted_line next.counts)) (sym is.made)
     (replies.accepted (draft_of next) next.map next.counts current)))
 
-module _ (before after : FolderState) (old new : Session) (edit : List Change) (view : EditorState) (spent spent_after : ℕ) (few : spent_after ≤ spent + generations edit * most_steps) (is : IsViewOf before old spent view) where
+module _ (before after : FolderState) (old new : Session) (edit : List Change) (view : EditorState) (spent spent_after : ℕ) (few : spent_after ≤ spent + generations edit * most_steps)
+    (fresh : IfSome before.holds (λ tree. (state : SessionState) → IsSessionOf tree old state → IsFrugal state edit spent spent_after)) (is : IsViewOf before old spent view) where
   abbrev left_view : EditorState
   left_view = record { told = view.told; faults = after.look_faults; asked = after.asked; spent = spent_after }
 
-  few_more : spent_after ≤ view.spent + generations edit * most_steps
-  few_more = subst (λ (n : ℕ). spent_after ≤ n + generations edit * most_steps) (sym is.spent) few
+  abbrev TakesFresh : Tree → Type 0
+  TakesFresh tree = (state : SessionState) → IsSessionOf tree old state → IsFrugal state edit spent spent_after
+
+  frugal_told : (told : Option SessionState) → IsToldBy before old told → IfSome told (λ state. IsFrugal state edit spent spent_after)
+  frugal_told None none = tt
+  frugal_told (Some state) stands = at_tree TakesFresh before.holds stands.tree stands.holds fresh state stands.is_state
+
+  spends : (told : Option SessionState) → EditSpends view edit (record { told = told; faults = after.look_faults; asked = after.asked; spent = spent_after })
+  spends told = record {
+    most = subst (λ (n : ℕ). spent_after ≤ n + generations edit * most_steps) (sym is.spent) few;
+    frugal = subst (λ (n : ℕ). IfSome view.told (λ state. IsFrugal state edit n spent_after)) (sym is.spent) (frugal_told view.told is.told);
+  }
 
   abbrev Stays : Tree → Type 0
   Stays tree = (state : SessionState) → IsSessionOf tree old state → IsSessionOf tree new state
@@ -138,7 +150,7 @@ module _ (before after : FolderState) (old new : Session) (edit : List Change) (
   stopped_seen fault result prepares says = record {
     at = left_view;
     is = record { told = told_still (Err fault) prepares view.told is.told; faults = refl; asked = refl; spent = refl };
-    holds = record { comes = stopped_edits fault result prepares says; looks = looks_told (Err fault) prepares view.told is.told; steps = few_more };
+    holds = record { comes = stopped_edits fault result prepares says; looks = looks_told (Err fault) prepares view.told is.told; steps = spends view.told };
   }
 
   -- ---- what is accepted
@@ -179,7 +191,7 @@ module _ (before after : FolderState) (old new : Session) (edit : List Change) (
         record {
           at = record { told = next.later; faults = after.look_faults; asked = after.asked; spent = spent_after };
           is = record { told = next.is_told; faults = refl; asked = refl; spent = refl };
-          holds = record { comes = edits result says next quiet; looks = looks_told (Ok tt) prepares view.told is.told; steps = few_more };
+          holds = record { comes = edits result says next quiet; looks = looks_told (Ok tt) prepares view.told is.told; steps = spends next.later };
         }
       where
         edits : (result : Result (List ℕ) EditorFault) → SaysLine (accepted_line (shown_counts closed)) result → (next : NextTold view.told) → after.look_faults ≡ view.faults

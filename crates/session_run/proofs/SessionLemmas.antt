@@ -11,18 +11,20 @@ use Rattle.tree_spec.specs.States.{FolderState, SourceState, SinkState}
 use Rattle.tree_spec.specs.Trees.{Tree}
 use Rattle.tree_spec.specs.declared.LimitName.TheVariants.{Session as Limited}
 use Rattle.tree_spec.proofs.ToldStates.{if_some, if_two, if_all}
-use Rattle.trace_spec.specs.Laws.{IsLookedAt}
+use Rattle.trace_spec.specs.Laws.{IsLookedAt, asked_by_end}
 use Rattle.trace_spec.specs.Modules.{Config}
 use Rattle.config_spec.specs.Projects.{IsConfigOf}
 use Rattle.config_spec.specs.declared.Command.TheVariants.{Refresh}
-use Rattle.generation.specs.Generating.{AsksNoPathTwice, AsksFootprint}
+use Rattle.generation.specs.Generating.{AsksNoPathTwice, AsksFootprint, StepsToEnd}
 use Rattle.generation.specs.declared.stop.Stop.{Stop}
 use Rattle.generation.specs.declared.stop.Stop.TheVariants as stop
+use Rattle.generator_spec.proofs.Configs.{one_config}
 use Rattle.generator_spec.specs.Asked.{IsConfigAt}
 use Rattle.generator_spec.specs.Ending.{CanRefuse as can}
 use Rattle.generator_spec.specs.Lines.{status_of, line_of, limit_line, memory_line, read_fault_line}
 use Rattle.generator_spec.specs.Outcome.{RefusesRun, by_tree}
 use Rattle.generator_spec.specs.Statuses.{memory_status, read_fault_status}
+use Rattle.generator_spec.specs.Steps.{TraceSpends}
 use Rattle.package_lookup.specs.Looked.{kept_at}
 use Rattle.soundness.proofs.SessionMaps.{session_maps_serve}
 use Rattle.session_input.proofs.ReaderLemmas.{takes_none}
@@ -34,7 +36,8 @@ use Rattle.session_spec.specs.SessionLooks.{IsTriedLook, IsSessionLook, of_openi
 use Rattle.session_spec.specs.SessionRuns.{SessionComesTo, RepliesTo, unopened, RepliesToAll, NoFault, IsOpenedText, IsFrontShaped, IsAnswerShaped, SessionSays, SessionStops, SessionEnds}
 use Rattle.session_spec.specs.SessionStates.{SessionState, IsGenerated}
 use Rattle.session_spec.specs.TakenInput.{NoTake, IsAwaited}
-use Rattle.session_spec.specs.SessionSteps.{most_steps, SpendsFor, SessionSpends}
+use Rattle.session_spec.specs.SessionSteps as spending
+use Rattle.session_spec.specs.SessionSteps.{most_steps, SpendsFor, EditsSpend, SpendsOn, SessionSpends}
 use Rattle.session_spec.proofs.SessionSpending.{spends_nothing}
 use Rattle.session_spec.proofs.TakenFronts.{no_take}
 use Rattle.session_spec.specs.Talks.{begun, still}
@@ -267,12 +270,24 @@ module _ (config : Config) (session : Session) where
 few_sum : (spent mid after most some : ℕ) → mid ≤ spent + most → after ≤ mid + some → after ≤ spent + most + some
 few_sum spent mid after most some one other = omega (arith, one, other)
 
-module _ (spent mid : ℕ) (few : mid ≤ spent + most_steps) where
-  spends_none : SessionSpends [] spent mid
-  spends_none = spends_nothing (take (limit_number Limited) []) (spent + most_steps) mid few
+-- the words ask for one config
+opening_spends : (config : Config) (before : FolderState) (spent mid : ℕ) → IfSome before.holds (λ tree. IsConfigOf refresh_words tree Refresh config) → StepsToEnd config before.holds spent mid
+    → IfSome before.holds (λ tree. TraceSpends refresh_words tree spent mid)
+opening_spends config before spent mid is_config few =
+    if_two before.holds (λ tree is each. λ command other asked are by_end.
+    let same = one_config refresh_words tree Refresh command config other is are in
+    let some = each asked (subst (λ (c : Config). asked_by_end (get tree) c ≡ Some asked) (sym same.one_config) by_end) in
+    omega (arith, some)) is_config few
 
-  spends_more : (after last : ℕ) → last ≡ after → (input : List ℕ) → SpendsFor input mid last → SpendsFor input (spent + most_steps) after
-  spends_more after last e input is = record {
+module _ (told : Option Tree) (spent mid : ℕ) (few : mid ≤ spent + most_steps) (by_trace : IfSome told (λ tree. TraceSpends refresh_words tree spent mid)) where
+  spends_none : SessionSpends told [] spent mid
+  spends_none = record {
+    most = spends_nothing (take (limit_number Limited) []) (spent + most_steps) mid few;
+    fresh = if_some told (λ tree is. spending.unopened is) by_trace;
+  }
+
+  most_more : (after last : ℕ) → last ≡ after → (input : List ℕ) → SpendsFor input mid last → SpendsFor input (spent + most_steps) after
+  most_more after last e input is = record {
     edits = is.edits;
     held = is.held;
     behind = is.behind;
@@ -280,12 +295,26 @@ module _ (spent mid : ℕ) (few : mid ≤ spent + most_steps) where
     few = few_sum spent mid after most_steps (is.edits * most_steps) few (subst (λ (n : ℕ). n ≤ mid + is.edits * most_steps) e is.few);
   }
 
+  abbrev MayOpen : List ℕ → ℕ → Tree → Type 0
+  MayOpen taken last tree = (first : SessionState) × OpensAt tree first × EditsSpend first (take (limit_number Limited) taken) mid last
+
+  spends_more : (after last : ℕ) → last ≡ after → (taken : List ℕ) → SpendsFor (take (limit_number Limited) taken) mid last → IfSome told (MayOpen taken last) → SessionSpends told taken spent after
+  spends_more after last e taken is edits = record {
+    most = most_more after last e (take (limit_number Limited) taken) is;
+    fresh = if_two told (λ tree opening from.
+        subst (λ (n : ℕ). SpendsOn tree taken spent n) e (spending.opened from.0 mid from.1 opening from.2)) by_trace edits;
+  }
+
 -- ---- a session that is opened
 
 nothing_taken : (told : Option Tree) (source : SourceState) → IfSome told (λ tree. IsTakenOf tree source [] source)
 nothing_taken told source = if_all told (λ tree. inl (no_take source))
 
-module _ (config : Config) (before mid : FolderState) (session : Session) (opening : OpensSession config before (Ok session) mid) (is_config : IsConfigAt refresh_words Refresh config before) (spent spent_mid : ℕ) (few : spent_mid ≤ spent + most_steps) where
+module _ (config : Config) (before mid : FolderState) (session : Session) (opening : OpensSession config before (Ok session) mid) (is_config : IsConfigAt refresh_words Refresh config before) (spent spent_mid : ℕ) (few : spent_mid ≤ spent + most_steps)
+    (few_asked : StepsToEnd config before.holds spent spent_mid) where
+  by_trace : IfSome before.holds (λ tree. TraceSpends refresh_words tree spent spent_mid)
+  by_trace = opening_spends config before spent spent_mid is_config.told few_asked
+
   abbrev told_first : Option SessionState
   told_first = begun_told config session before.holds opening.opened
 
@@ -344,7 +373,7 @@ module _ (config : Config) (before mid : FolderState) (session : Session) (openi
         awaited = none_awaited source;
         opened = nothing_taken before.holds source;
         asked = within_of before.asked before.holds [] mid (fresh_first []);
-        steps = spends_none spent spent_mid few;
+        steps = spends_none before.holds spent spent_mid few by_trace;
         stops = stops;
         serves = if_all before.holds (λ tree. session_maps_serve tree []);
       };
@@ -382,7 +411,8 @@ module _ (config : Config) (before mid : FolderState) (session : Session) (openi
             awaited = done.awaited;
             opened = taken_then config session before.holds told_first is_begun before mid after refl (quiet_opening config before mid session opening) view_first seen.at refl refl seen.is.faults source later middle done.taken;
             asked = within_of before.asked before.holds done.taken after fresh;
-            steps = spends_more spent spent_mid few spent_after seen.at.spent seen.is.spent (take (limit_number Limited) done.taken) done.steps;
+            steps = spends_more before.holds spent spent_mid few by_trace spent_after seen.at.spent seen.is.spent done.taken done.steps.most
+                (lifted config session told_first before.holds is_begun (λ state tree begins spends. (state, begins.opens_at, spends)) done.steps.frugal);
             stops = stops_then config session before.holds told_first is_begun before mid after refl (quiet_opening config before mid session opening) view_first seen.at refl refl seen.is.faults source later middle done.taken out gone result got quiet done.stops;
             serves = if_all before.holds (λ tree. session_maps_serve tree done.taken);
           };
@@ -391,7 +421,8 @@ module _ (config : Config) (before mid : FolderState) (session : Session) (openi
 
 -- ---- a session that isn't opened
 
-module _ (config : Config) (before mid : FolderState) (source : SourceState) (out gone : SinkState) (result : ℕ) (output_later : out.faults ≤ gone.faults) (is_config : IsConfigAt refresh_words Refresh config before) (spent spent_mid : ℕ) (few : spent_mid ≤ spent + most_steps) where
+module _ (config : Config) (before mid : FolderState) (source : SourceState) (out gone : SinkState) (result : ℕ) (output_later : out.faults ≤ gone.faults) (is_config : IsConfigAt refresh_words Refresh config before) (spent spent_mid : ℕ) (few : spent_mid ≤ spent + most_steps)
+    (few_asked : StepsToEnd config before.holds spent spent_mid) where
   pub refused_ends : (why : Stop) → OpensSession config before (Err why) mid → RefusedEnds why out gone result → HoldsSession before mid source source out gone result spent spent_mid
   refused_ends why opening is = record {
     ends = record {
@@ -405,7 +436,7 @@ module _ (config : Config) (before mid : FolderState) (source : SourceState) (ou
       awaited = none_awaited source;
       opened = nothing_taken before.holds source;
       asked = within_of before.asked before.holds [] mid (fresh_opening config before mid opening.asked opening.footprint is_config.told []);
-      steps = spends_none spent spent_mid few;
+      steps = spends_none before.holds spent spent_mid few (opening_spends config before spent spent_mid is_config.told few_asked);
       stops = stopped why opening is;
       serves = if_all before.holds (λ tree. session_maps_serve tree []);
     };

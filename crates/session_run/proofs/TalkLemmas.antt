@@ -13,6 +13,7 @@ use Rattle.session_input.specs.Readers.{Waiting, waiting, IsFresh}
 use Rattle.session_input.proofs.ReaderLemmas.{takes_none}
 use Rattle.session_spec.specs.SessionLooks.{IsTriedLook}
 use Rattle.session_spec.specs.SessionStates.{SessionState}
+use Rattle.session_spec.specs.SessionSteps as spending
 use Rattle.session_spec.proofs.SessionSpending.{spends_nothing}
 use Rattle.session_spec.specs.Talks.{Standing, begun, still}
 use Rattle.edit_session.specs.declared.session.Session.{Session}
@@ -74,7 +75,10 @@ wants_reader before source out gone result is = record {
   few = omega arith;
   awaited = nothing_awaited source;
   looks = if_all before.told (λ state. nothing_for (IsTriedLook state (take (limit_number Limited) [])) before.asked before.asked refl);
-  steps = spends_nothing (take (limit_number Limited) []) before.spent before.spent (omega arith);
+  steps = record {
+    most = spends_nothing (take (limit_number Limited) []) before.spent before.spent (omega arith);
+    frugal = if_all before.told (λ state. spending.stands (begun_alone state) spending.begun);
+  };
   stops = talking.said memory_status memory_line
       (talking.memory [] (record { editor_is = refl; source_is = refl }) (if_all before.told (λ state. record { later = begun_alone state; talks = still (begun_alone state) })) refl refl) is;
 }

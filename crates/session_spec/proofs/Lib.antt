@@ -18,3 +18,4 @@ pub mod RefusalStatuses
 pub mod SessionsPromise
 pub mod OpenInputs
 pub mod TakenFronts
+pub mod FrugalExamples

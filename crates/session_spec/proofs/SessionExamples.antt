@@ -204,7 +204,7 @@ refused_reply : (state : SessionState) (edit : List Change) (fault : EditFault) 
 refused_reply state edit fault e =
     refused (edited (draft_of state) edit) (fault_line fault) (subst (λ (made : Result Draft EditFault). IsRefused state made (fault_line fault)) (sym e) (by_change fault))
 
-q_not_linked : (state : SessionState) → state.config.entries ≡ texts ("./app.mjs" ∷ []) → edited (draft_of state) (unlink_of "q" ∷ []) ≡ Err (NotLinked (codes "q"))
+pub q_not_linked : (state : SessionState) → state.config.entries ≡ texts ("./app.mjs" ∷ []) → edited (draft_of state) (unlink_of "q" ∷ []) ≡ Err (NotLinked (codes "q"))
 q_not_linked state e = ap (λ (entries : List (List ℕ)). edited (record { tree = state.tree; entries = entries }) (unlink_of "q" ∷ [])) e
 
 q_no_file : (state : SessionState) → get state.tree (codes "/q") ≡ None → edited (draft_of state) (drop_at "/q" ∷ []) ≡ Err (BadEdit (codes "/q"))

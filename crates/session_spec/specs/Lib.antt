@@ -9,6 +9,7 @@ pub mod TakenInput
 pub mod EditLooks
 pub mod Openings
 pub mod SessionLooks
+pub mod Frugality
 pub mod SessionSteps
 pub mod SessionRuns
 pub mod SessionPromises

@@ -175,6 +175,6 @@ pub record SessionEnds (before after : FolderState) (source later : SourceState)
   pub awaited : IsAwaited source taken later
   pub opened : IfSome before.holds (λ tree. NoTake source taken later ⊎ CanOpen tree)
   pub asked : IfSome before.asked (λ old. AsksWithin before.holds taken old after)
-  pub steps : SessionSpends taken spent spent_after
+  pub steps : SessionSpends before.holds taken spent spent_after
   pub stops : SessionStops before after source later taken out out_after result
   pub serves : IfSome before.holds (λ tree. StatesServe tree taken)

@@ -8,11 +8,13 @@
 --     EditExamples, EntryExamples     changes of files, of entries
 --     TurnExamples                    each place of `begin`, `commit`, `map` and `end`
 --     AnswerExamples                  what is replied to whole inputs
+--     FrugalExamples                  what an edit asks anew, and how many steps lines take
 use Rattle.std.specs.FinMap.{get}
 use Rattle.std.specs.List.{list_any}
-use Rattle.std.specs.Prelude.{◌≡◌, ◌++◌, ◌∷◌, [], ⊤, ℕ, true, false, List, length, bytes_eq, codes}
+use Rattle.std.specs.Prelude.{◌≡◌, ◌++◌, ◌∷◌, [], ⊤, ℕ, true, false, List, length, bytes_eq, codes, Contains}
 use Rattle.std.specs.Prelude.{Option, Some, None, Ok, Err}
 use Prim.Native.String.{String}
+use Rattle.asking_spec.specs.Askings.{questions}
 use Rattle.tree_spec.specs.LookAskings.{Sights}
 use Rattle.tree_spec.specs.Trees.{Tree}
 use Rattle.tree_spec.specs.declared.Entry.{Entry}
@@ -22,15 +24,19 @@ use Rattle.layout_spec.specs.WorkedExamples.{lines}
 use Rattle.node_spec.specs.BuiltinNames.{texts}
 use Rattle.node_spec.specs.NodeExamples.{Files, file, folder}
 use Rattle.trace_spec.specs.Modules.{Config}
+use Rattle.trace_spec.specs.Questions.{Question, of_module, always}
+use Rattle.trace_spec.specs.Traces.{trace}
 use Rattle.session_spec.specs.declared.Change.{Change}
 use Rattle.session_spec.specs.declared.Change.TheVariants.{Link, Unlink, Put, Drop}
 use Rattle.session_spec.specs.declared.EditFault.{EditFault}
 use Rattle.session_spec.specs.declared.EditFault.TheVariants.{NotLinked, TooManyEntries, BadEdit}
 use Rattle.session_spec.specs.Conversations.{makes, holds, shows, ends, refuses, stops, turn_at, Conversation, Answers}
 use Rattle.session_spec.specs.Edits.{Draft, changed, edited}
+use Rattle.session_spec.specs.Frugality.{IsFreshFor, IsFrugal}
 use Rattle.session_spec.specs.SessionLines.{changes, begins, commits, shows_map, ends_session, Rest}
 use Rattle.session_spec.specs.SessionLines.{reads, malformed, unfinished, read_line}
 use Rattle.session_spec.specs.SessionStates.{Counts, SessionState}
+use Rattle.session_spec.specs.SessionSteps.{EditsSpend}
 
 abbrev pub put_at : String → List ℕ → Change
 put_at path bytes = Put (codes path) bytes
@@ -220,3 +226,23 @@ pub record AnswerExamples : Type 0 where
   pub too_long :
       (state : SessionState) (input : List ℕ) → turn_at None input ≡ stops
       → Conversation true state 1 (turn_at None input) (lines ("limit: session above 268435456" ∷ [])) 3
+
+-- ---- steps
+
+pub record FrugalExamples : Type 0 where
+  -- of what was asked already, nothing is fresh on the same tree
+  pub same_tree :
+      (tree : Tree) (config : Config) (question : Question)
+      → Contains (questions (always (get tree)) (trace config)) question → IsFreshFor tree config tree question → ⊥
+  -- a module of which other bytes stand there is
+  pub other_bytes :
+      (tree later : Tree) (config : Config) → get tree (codes "/m.mjs") ≡ Some (Stored [])
+      → get later (codes "/m.mjs") ≡ Some (Stored (codes "1"))
+      → IsFreshFor tree config later (of_module (codes "/m.mjs"))
+  -- what can't be unlinked takes no step
+  pub refused :
+      (state : SessionState) (from to : ℕ) → state.config.entries ≡ texts ("./app.mjs" ∷ [])
+      → IsFrugal state (unlink_of "q" ∷ []) from to → to ≡ from
+  -- nor do other lines
+  pub no_edit :
+      (state : SessionState) (from : ℕ) → EditsSpend state (lines ("map" ∷ "begin" ∷ "map" ∷ [])) from from

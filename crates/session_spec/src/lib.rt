@@ -12,7 +12,7 @@ ghost use Rattle.session_spec.specs.Laws.{RepliesAreFront, SessionsKeepPromises,
 ghost use Rattle.session_spec.specs.Laws.{NoTakeBehindEnd};
 ghost use Rattle.session_spec.specs.TakenInput.{taken_at_once};
 ghost use Rattle.session_spec.specs.WorkedExamples.{LineExamples, TurnExamples, EntryExamples};
-ghost use Rattle.session_spec.specs.WorkedExamples.{EditExamples, AnswerExamples};
+ghost use Rattle.session_spec.specs.WorkedExamples.{EditExamples, AnswerExamples, FrugalExamples};
 
 use shared_types::{Bytes, Text};
 use tree_model::Path;
@@ -210,4 +210,9 @@ pub fn edit_examples()
 /// What is replied to whole inputs.
 pub fn answer_examples()
     ensures { AnswerExamples }
+{}
+
+/// What an edit asks anew, and how many steps lines take.
+pub fn frugal_examples()
+    ensures { FrugalExamples }
 {}

@@ -58,7 +58,7 @@ module _ (first : Now) (taken : List ℕ) (asked : Option (List (List ℕ))) whe
 
 -- ---- an edit
 
-module _ (state : SessionState) (taken text : List ℕ) (number : ℕ) (order : Order) (now : Now) (is : OrderedAt number order state taken text now) (edit : List Change) (does : turn_of is.at ≡ makes edit is.rest) where
+module _ (spent : ℕ) (state : SessionState) (taken text : List ℕ) (number : ℕ) (order : Order) (now : Now) (is : OrderedAt spent number order state taken text now) (edit : List Change) (does : turn_of is.at ≡ makes edit is.rest) where
   tried_here : (path : List ℕ) → IsEditLook is.at.state edit path → IsTriedLook state taken path
   tried_here path looks = record {
     state = is.at.state;

@@ -14,9 +14,9 @@ use Rattle.session_spec.specs.Conversations.{Answers, bad_line}
 use Rattle.session_spec.specs.SessionLines as lines
 use Rattle.session_spec.specs.SessionLines.{malformed, unfinished}
 use Rattle.session_spec.specs.SessionStates.{SessionState}
-use Rattle.session_spec.specs.SessionSteps.{SpendsFor}
+use Rattle.session_spec.specs.SessionSteps.{EditsSpend, stands}
 use Rattle.session_spec.specs.TakenInput.{IsFront, Takes, IsSpent, IsAwaited}
-use Rattle.session_spec.proofs.SessionSpending.{edits_on, spends_allowed}
+use Rattle.session_spec.proofs.SessionSpending.{edits_on, spends_allowed, edits_spend_allowed}
 use Rattle.session_spec.proofs.SomeAnswer.{read_shorter}
 use Rattle.session_spec.proofs.Standings.{answers_refused, answers_short, answers_long}
 use Rattle.session_spec.proofs.Talking.{with_more}
@@ -26,7 +26,7 @@ use Rattle.session_input.specs.declared.reading.Reading.TheVariants as reading
 use Rattle.session_input.specs.Readers.{Waiting, order_of, IsWithin, IsBeyond, IsRead, IsNeeded, ReadsNext}
 use Rattle.session_input.proofs.ReaderLemmas.{takes_then}
 use Rattle.session_talk.specs.Editors.{EditorState}
-use Rattle.session_talk.specs.Talking.{Now, now_at, StandsAt, OrderedAt, Looks, GoesOn, IsOrdered, RepliesFront, RepliesAll, at_line, at_limit, IsQuiet, Converses, TellsEnd}
+use Rattle.session_talk.specs.Talking.{Now, now_at, StandsAt, OrderedAt, Looks, GoesOn, IsOrdered, RepliesFront, RepliesAll, Spends, at_line, at_limit, IsQuiet, Converses, TellsEnd}
 use Rattle.session_talk.proofs.LookLemmas.{looks_with, looks_within}
 use Rattle.session_talk.proofs.TalkLemmas.{if_told, replies_with, replies_all, ends_memory, ends_take_fault, ends_outcome, answers_input, answers_taken, talks_with, turns_with, ordered_with, open_with, awaited_with}
 
@@ -44,7 +44,7 @@ module _ (first : Now) (editor : EditorState) (before : Waiting) (held : Option 
   here = now_at editor before held source out
 
   abbrev Standing : SessionState → Type 0
-  Standing state = StandsAt state goes.taken goes.text here
+  Standing state = StandsAt first.editor.spent state goes.taken goes.text here
 
   abbrev all : List ℕ
   all = goes.taken ++ more
@@ -73,10 +73,13 @@ module _ (first : Now) (editor : EditorState) (before : Waiting) (held : Option 
   looks_all : Looks first (take (limit_number Session) all) editor.asked
   looks_all = looks_within first goes.taken editor.asked more few_taken goes.looks
 
-  spends_all : SpendsFor (take (limit_number Session) all) first.editor.spent editor.spent
-  spends_all =
-      spends_allowed goes.taken more first.editor.spent editor.spent few_taken
-      (record { edits = goes.edits; held = held; behind = before.unread; made = goes.made; few = goes.steps })
+  spends_all : Spends first (take (limit_number Session) all) editor
+  spends_all = record {
+    most = spends_allowed goes.taken more first.editor.spent editor.spent few_taken
+        (record { edits = goes.edits; held = held; behind = before.unread; made = goes.made; few = goes.steps });
+    frugal = if_told first.editor.told Standing (λ state. EditsSpend state (take (limit_number Session) all) first.editor.spent editor.spent)
+        (λ state at. edits_spend_allowed state goes.taken first.editor.spent editor.spent few_taken (stands at.at at.spends) more) goes.stands;
+  }
 
   few : (wanted : lines.Reading) → IsWithin before more wanted → length all ≤ limit_number Session
   few wanted within =
@@ -100,8 +103,8 @@ module _ (first : Now) (editor : EditorState) (before : Waiting) (held : Option 
       ends_take_fault first editor later all takes_all awaited_all few_all looks_all spends_all out after goes.text goes.said goes.quiet_out status (open_with goes.taken more before.unread goes.edits held goes.made (few unfinished within) within.is)
       goes.quiet_editor (subst (λ (n : ℕ). Rose n later.faults) goes.quiet_source rose)
       (if_told first.editor.told Standing (λ state. RepliesAll state all goes.text)
-      (λ state at. replies_all state goes.text (with_more more at.at) all (few unfinished within) (talks_with state goes.taken goes.text more here at)
-      (turns_with state goes.taken goes.text more here at unfinished within.is)) goes.stands) is
+      (λ state at. replies_all state goes.text (with_more more at.at) all (few unfinished within) (talks_with first.editor.spent state goes.taken goes.text more here at)
+      (turns_with first.editor.spent state goes.taken goes.text more here at unfinished within.is)) goes.stands) is
 
   numbered : (state : SessionState) (at : Standing state) (taken : List ℕ) (status : ℕ) → Answers state taken (goes.text ++ bad_line at.at.number) status → Answers state taken (goes.text ++ bad_line before.number) status
   numbered state at taken status answers = subst (λ (n : ℕ). Answers state taken (goes.text ++ bad_line n) status) (sym at.number) answers
@@ -113,7 +116,7 @@ module _ (first : Now) (editor : EditorState) (before : Waiting) (held : Option 
       let line = bad_line before.number in
       let answers : (state : SessionState) → Standing state → (rest : List ℕ) → Answers state (all ++ rest) (goes.text ++ line) file_status =
       λ state at rest. numbered state at (all ++ rest) file_status
-      (answers_refused state all goes.text (with_more more at.at) (talks_with state goes.taken goes.text more here at) rest (few malformed within) (turns_with state goes.taken goes.text more here at malformed within.is)) in
+      (answers_refused state all goes.text (with_more more at.at) (talks_with first.editor.spent state goes.taken goes.text more here at) rest (few malformed within) (turns_with first.editor.spent state goes.taken goes.text more here at malformed within.is)) in
       ends_outcome first editor later all takes_all awaited_all few_all looks_all spends_all out after goes.text goes.said goes.quiet_out line file_status status (at_line before.number) (quiet e)
       (if_told first.editor.told Standing (λ state. Answers state all (goes.text ++ line) file_status) (λ state at. answers_taken all (goes.text ++ line) file_status state (answers state at)) goes.stands)
       (if_told first.editor.told Standing (λ state. IfSome first.source.left (λ input. Answers state input (goes.text ++ line) file_status))
@@ -127,7 +130,7 @@ module _ (first : Now) (editor : EditorState) (before : Waiting) (held : Option 
       let line = bad_line before.number in
       let answers : (state : SessionState) → Standing state → Answers state all (goes.text ++ line) file_status =
       λ state at. numbered state at all file_status
-      (answers_short state all goes.text (with_more more at.at) (talks_with state goes.taken goes.text more here at) (few unfinished within) (turns_with state goes.taken goes.text more here at unfinished within.is)) in
+      (answers_short state all goes.text (with_more more at.at) (talks_with first.editor.spent state goes.taken goes.text more here at) (few unfinished within) (turns_with first.editor.spent state goes.taken goes.text more here at unfinished within.is)) in
       ends_outcome first editor later all takes_all awaited_all few_all looks_all spends_all out after goes.text goes.said goes.quiet_out line file_status status (at_line before.number) (quiet e)
       (if_told first.editor.told Standing (λ state. Answers state all (goes.text ++ line) file_status) answers goes.stands)
       (if_told first.editor.told Standing (λ state. IfSome first.source.left (λ input. Answers state input (goes.text ++ line) file_status))
@@ -146,8 +149,8 @@ module _ (first : Now) (editor : EditorState) (before : Waiting) (held : Option 
       let answers : (state : SessionState) → Standing state → (rest : List ℕ) → Answers state (all ++ rest) (goes.text ++ line) limit_status =
       λ state at rest.
       subst (λ (bytes : List ℕ). Answers state bytes (goes.text ++ line) limit_status) (sym (ap (λ (a : List ℕ). a ++ rest) whole ∙ append_assoc front (byte ∷ []) rest))
-      (answers_long state front goes.text (with_more beyond.front at.at) (talks_with state goes.taken goes.text beyond.front here at) byte rest full
-      (turns_with state goes.taken goes.text beyond.front here at unfinished beyond.is)) in
+      (answers_long state front goes.text (with_more beyond.front at.at) (talks_with first.editor.spent state goes.taken goes.text beyond.front here at) byte rest full
+      (turns_with first.editor.spent state goes.taken goes.text beyond.front here at unfinished beyond.is)) in
       ends_outcome first editor later all takes_all awaited_all few_all looks_all spends_all out after goes.text goes.said goes.quiet_out line limit_status status at_limit (quiet e)
       (if_told first.editor.told Standing (λ state. Answers state all (goes.text ++ line) limit_status) (λ state at. answers_taken all (goes.text ++ line) limit_status state (answers state at)) goes.stands)
       (if_told first.editor.told Standing (λ state. IfSome first.source.left (λ input. Answers state input (goes.text ++ line) limit_status))
@@ -164,8 +167,8 @@ module _ (first : Now) (editor : EditorState) (before : Waiting) (held : Option 
     awaited = awaited_all;
     text = goes.text;
     said = goes.said;
-    stands = if_told first.editor.told Standing (λ state. OrderedAt before.number (order_of order) state all goes.text (now_at editor after held later out))
-        (λ state at. ordered_with state goes.taken goes.text more here at (order_of order) after later read.rest read.is read.unread read.number) goes.stands;
+    stands = if_told first.editor.told Standing (λ state. OrderedAt first.editor.spent before.number (order_of order) state all goes.text (now_at editor after held later out))
+        (λ state at. ordered_with first.editor.spent state goes.taken goes.text more here at (order_of order) after later read.rest read.is read.unread read.number) goes.stands;
     looks = looks_with first goes.taken editor.asked more goes.looks;
     edits = goes.edits;
     made = record { from = before.unread ++ more; made = edits_on goes.taken more goes.edits held before.unread goes.made; rest = read.rest; order_is = read.is; input = read.unread };

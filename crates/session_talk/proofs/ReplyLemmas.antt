@@ -1,8 +1,8 @@
 -- Replies that are given in one piece and in two.
-use Rattle.std.proofs.Common.{◌≡◌, ◌≤◌, ◌++◌, ℕ, List, length, Option, Some, None, refl, sym, ap, ◌∙◌, subst, arith}
+use Rattle.std.proofs.Common.{◌≡◌, ◌++◌, ℕ, List, length, Option, Some, None, refl, sym, ap, ◌∙◌, subst, arith}
 use Rattle.std.proofs.lemmas.List.{append_assoc, take-append-le, take_min}
 use Rattle.std.specs.Fmt.{decimal}
-use Rattle.std.specs.Prelude.{◌+◌, ◌*◌, codes, take, min, option_map}
+use Rattle.std.specs.Prelude.{codes, take, min, option_map}
 use Rattle.tree_spec.specs.Counts.{Rose}
 use Rattle.tree_spec.specs.States.{SinkState}
 use Rattle.generator_spec.specs.Ending.{Ends, Gives}
@@ -10,8 +10,7 @@ use Rattle.generator_spec.specs.Lines.{end_of_line, memory_line, read_fault_line
 use Rattle.generator_spec.specs.Statuses.{memory_status, read_fault_status}
 use Rattle.session_spec.specs.declared.Change.{Change}
 use Rattle.session_spec.specs.Conversations.{map_reply}
-use Rattle.session_spec.specs.SessionSteps.{generations, most_steps}
-use Rattle.session_talk.specs.Editors.{EditorState, Seen, EditsTold, EditsLook, Shows}
+use Rattle.session_talk.specs.Editors.{EditorState, Seen, EditsTold, EditsLook, EditSpends, Shows}
 use Rattle.session_talk.specs.Talking.{Gave, CutOff, GivesReply, Makes, replied, fails, wants, ShowsMap, shown, lost}
 use Rattle.session_talk.proofs.TalkLemmas.{give_then, gives_then}
 
@@ -29,13 +28,13 @@ said_line {status} {result} {out} {gone} e is = subst (λ (l : List ℕ). Ends s
 -- ---- edits
 
 module _ (before : EditorState) (edit : List Change) (out : SinkState) (after : EditorState) (out_after : SinkState) where
-  pub makes_replied : (line : List ℕ) (result : Option ℕ) → EditsTold before edit line after → EditsLook before edit after → after.spent ≤ before.spent + generations edit * most_steps → GivesReply line out out_after result → Makes before edit out after out_after result
+  pub makes_replied : (line : List ℕ) (result : Option ℕ) → EditsTold before edit line after → EditsLook before edit after → EditSpends before edit after → GivesReply line out out_after result → Makes before edit out after out_after result
   makes_replied line result edits looks steps gives = replied line edits looks steps gives
 
-  pub makes_fault : (status : ℕ) → Rose before.faults after.faults → EditsLook before edit after → after.spent ≤ before.spent + generations edit * most_steps → Ends read_fault_status read_fault_line out out_after status → Makes before edit out after out_after (Some status)
+  pub makes_fault : (status : ℕ) → Rose before.faults after.faults → EditsLook before edit after → EditSpends before edit after → Ends read_fault_status read_fault_line out out_after status → Makes before edit out after out_after (Some status)
   makes_fault status rose looks steps is = fails status refl rose looks steps is
 
-  pub makes_nothing : (status : ℕ) → after.faults ≡ before.faults → EditsLook before edit after → after.spent ≤ before.spent + generations edit * most_steps → Ends memory_status memory_line out out_after status → Makes before edit out after out_after (Some status)
+  pub makes_nothing : (status : ℕ) → after.faults ≡ before.faults → EditsLook before edit after → EditSpends before edit after → Ends memory_status memory_line out out_after status → Makes before edit out after out_after (Some status)
   makes_nothing status quiet looks steps is = wants status refl quiet looks steps is
 
 pub ruleset making = (makes_replied, makes_fault, makes_nothing)

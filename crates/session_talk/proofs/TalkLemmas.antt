@@ -13,22 +13,23 @@ use Rattle.generator_spec.specs.Lines.{memory_line, read_fault_line}
 use Rattle.generator_spec.specs.Statuses.{memory_status, read_fault_status}
 use Rattle.session_spec.specs.declared.Change.{Change}
 use Rattle.session_spec.specs.Conversations.{Answers, turn, makes, holds, shows, stops, map_reply}
+use Rattle.session_spec.specs.Frugality.{IsFrugal}
 use Rattle.session_spec.specs.SessionLines as lines
 use Rattle.session_spec.specs.SessionLines.{Rest, reads, unfinished, read_line}
 use Rattle.session_spec.specs.SessionLooks.{IsTriedLook}
 use Rattle.session_spec.specs.SessionStates.{SessionState}
-use Rattle.session_spec.specs.SessionSteps.{MakesEdits, SpendsFor, most_steps}
+use Rattle.session_spec.specs.SessionSteps.{MakesEdits, SpendsAt, most_steps}
 use Rattle.session_spec.specs.SessionSteps as spending
 use Rattle.session_spec.specs.TakenInput.{IsFront, Takes, LeavesOpen, IsAwaited}
 use Rattle.session_spec.specs.Talks.{Standing, begun, behind, turn_of, Talks, still, edits, collects, shows_it}
-use Rattle.session_spec.proofs.SessionSpending.{few_by_none, edits_on}
+use Rattle.session_spec.proofs.SessionSpending.{few_by_none, edits_on, stands_on}
 use Rattle.session_spec.proofs.TakenFronts.{untaken, takes_behind}
 use Rattle.session_spec.proofs.Talking.{with_more, talks_on, talks_then, allowed_front}
 use Rattle.session_input.specs.Readers.{Waiting, IsWithin, IsNeeded}
 use Rattle.session_input.proofs.ReaderLemmas.{takes_none}
 use Rattle.session_talk.specs.Editors.{EditorState, AsksFor, IsReplied}
 use Rattle.session_talk.specs.Talking.{Now, now_at, StandsAt, OrderedAt, Looks, GoesOn}
-use Rattle.session_talk.specs.Talking.{RepliesFront, RepliesAll, IsLastLine, IsQuiet, Says, outcome, memory, look_fault, take_fault, said, cut_off, Converses}
+use Rattle.session_talk.specs.Talking.{RepliesFront, RepliesAll, Spends, IsLastLine, IsQuiet, Says, outcome, memory, look_fault, take_fault, said, cut_off, Converses}
 use Rattle.session_talk.specs.Talking.{CutOff}
 use Rattle.session_talk.proofs.LookLemmas.{nothing_for}
 
@@ -65,7 +66,7 @@ ends_then first now after text line status result e quiet (ending.output_fault i
 -- ---- ends
 
 module _ (first : Now) (editor : EditorState) (source : SourceState) (taken : List ℕ) (takes : Takes first.source taken source) (awaited : IsAwaited first.source taken source) (few : length taken ≤ limit_number Session + 1)
-    (looks : Looks first (take (limit_number Session) taken) editor.asked) (spends : SpendsFor (take (limit_number Session) taken) first.editor.spent editor.spent) where
+    (looks : Looks first (take (limit_number Session) taken) editor.asked) (spends : Spends first (take (limit_number Session) taken) editor) where
   module _ (out after : SinkState) (text : List ℕ) (got : out.got ≡ option_map (λ front. front ++ text) first.out.got) (quiet_out : out.faults ≡ first.out.faults) where
     ends_as : (line : List ℕ) (status result : ℕ) → Says first editor source taken status (text ++ line) → Ends status line out after result → Converses first editor source after result
     ends_as line status result says is =
@@ -139,7 +140,7 @@ answers_taken taken text status state answers = subst (λ (bytes : List ℕ). An
 
 -- ---- behind a line
 
-module _ (state : SessionState) (taken text : List ℕ) (number : ℕ) (order : lines.Order) (now : Now) (is : OrderedAt number order state taken text now) where
+module _ (spent : ℕ) (state : SessionState) (taken text : List ℕ) (number : ℕ) (order : lines.Order) (now : Now) (is : OrderedAt spent number order state taken text now) where
   pub order_turn : turn_of is.at ≡ turn is.at.held (reads order is.rest)
   order_turn = ap (turn is.at.held) is.order_is
 
@@ -150,14 +151,24 @@ module _ (state : SessionState) (taken text : List ℕ) (number : ℕ) (order : 
     abbrev after_line : Option (List Change) → Now
     after_line held = now_at editor now.waiting held now.source out
 
-    pub stands_made : (edit : List Change) (line : List ℕ) → turn_of is.at ≡ makes edit is.rest → IsReplied is.at.state edit line editor.told → StandsAt state taken (text ++ line) (after_line None)
-    stands_made edit line does reply =
+    pub stands_made : (edit : List Change) (line : List ℕ) → turn_of is.at ≡ makes edit is.rest → IsReplied is.at.state edit line editor.told → IsFrugal is.at.state edit now.editor.spent editor.spent
+        → StandsAt spent state taken (text ++ line) (after_line None)
+    stands_made edit line does reply frugal =
         let later = behind is.at reply.next None is.rest in
         let one = subst (λ (t : List ℕ). Talks is.at t later) (append-nil line) (edits is.at later edit is.rest reply.next line [] does reply.replies (still later)) in
-        record { at = later; talks = talks_then (begun state taken) is.at later text line is.talks one; told = reply.is_told; number = is.number_is; held = refl; input = is.input }
+        record {
+          at = later;
+          talks = talks_then (begun state taken) is.at later text line is.talks one;
+          spends = spending.edits is.at now.editor.spent editor.spent edit is.rest reply.next line is.spends does reply.replies frugal;
+          told = reply.is_told;
+          number = is.number_is;
+          held = refl;
+          input = is.input;
+        }
 
-    pub stands_shown : (map : List ℕ) → turn_of is.at ≡ shows is.rest → map ≡ is.at.state.map → editor.told ≡ now.editor.told → StandsAt state taken (text ++ map_reply map) (after_line None)
-    stands_shown map does same told =
+    pub stands_shown : (map : List ℕ) → turn_of is.at ≡ shows is.rest → map ≡ is.at.state.map → editor.told ≡ now.editor.told → editor.spent ≡ now.editor.spent
+        → StandsAt spent state taken (text ++ map_reply map) (after_line None)
+    stands_shown map does same told rested =
         let later = behind is.at is.at.state None is.rest in
         let line = map_reply is.at.state.map in
         let one = subst (λ (t : List ℕ). Talks is.at t later) (append-nil line) (shows_it is.at later is.rest [] does (still later)) in
@@ -165,19 +176,22 @@ module _ (state : SessionState) (taken text : List ℕ) (number : ℕ) (order : 
         record {
           at = later;
           talks = subst (λ (m : List ℕ). Talks (begun state taken) (text ++ map_reply m) later) (sym same) talks;
+          spends = subst (λ (n : ℕ). SpendsAt state taken spent later n) (sym rested) (spending.shows_it is.at now.editor.spent is.rest is.spends does);
           told = told ∙ is.told;
           number = is.number_is;
           held = refl;
           input = is.input;
         }
 
-    pub stands_collected : (held : List Change) → turn_of is.at ≡ holds held is.rest → editor.told ≡ now.editor.told → StandsAt state taken text (after_line (Some held))
-    stands_collected held does told =
+    pub stands_collected : (held : List Change) → turn_of is.at ≡ holds held is.rest → editor.told ≡ now.editor.told → editor.spent ≡ now.editor.spent
+        → StandsAt spent state taken text (after_line (Some held))
+    stands_collected held does told rested =
         let later = behind is.at is.at.state (Some held) is.rest in
         let one = collects is.at later held is.rest [] does (still later) in
         record {
           at = later;
           talks = subst (λ (t : List ℕ). Talks (begun state taken) t later) (append-nil text) (talks_then (begun state taken) is.at later text [] is.talks one);
+          spends = subst (λ (n : ℕ). SpendsAt state taken spent later n) (sym rested) (spending.collects is.at now.editor.spent held is.rest is.spends does);
           told = told ∙ is.told;
           number = is.number_is;
           held = refl;
@@ -198,7 +212,7 @@ open_with taken more unread count held made few needed = record {
   waits = ap (turn held) needed;
 }
 
-module _ (state : SessionState) (front text more : List ℕ) (now : Now) (stands : StandsAt state front text now) where
+module _ (spent : ℕ) (state : SessionState) (front text more : List ℕ) (now : Now) (stands : StandsAt spent state front text now) where
   pub standing_with : Standing
   standing_with = with_more more stands.at
 
@@ -213,10 +227,11 @@ module _ (state : SessionState) (front text more : List ℕ) (now : Now) (stands
 
   pub ordered_with : (order : lines.Order) (waiting : Waiting) (source : SourceState) (rest : Rest) → read_line (now.waiting.unread ++ more) ≡ reads order rest → waiting.unread ≡ rest.behind
       → waiting.number ≡ now.waiting.number + rest.lines
-      → OrderedAt now.waiting.number order state (front ++ more) text (now_at now.editor waiting now.held source now.out)
+      → OrderedAt spent now.waiting.number order state (front ++ more) text (now_at now.editor waiting now.held source now.out)
   ordered_with order waiting source rest e unread number = record {
     at = with_more more stands.at;
     talks = talks_with;
+    spends = stands_on state front more spent stands.at now.editor.spent stands.spends;
     told = stands.told;
     line = stands.number;
     held = stands.held;
@@ -242,10 +257,10 @@ nothing_said None = refl
 nothing_said (Some got) = ap Some (sym (append-nil got))
 
 stands_begun : (told : Option SessionState) (faults : ℕ) (asked : Option (List (List ℕ))) (spent : ℕ) (waiting : Waiting) (source : SourceState) (out : SinkState) → waiting.unread ≡ [] → waiting.number ≡ 1
-    → IfSome told (λ state. StandsAt state [] [] (now_at (record { told = told; faults = faults; asked = asked; spent = spent }) waiting None source out))
+    → IfSome told (λ state. StandsAt spent state [] [] (now_at (record { told = told; faults = faults; asked = asked; spent = spent }) waiting None source out))
 stands_begun None faults asked spent waiting source out unread number = tt
 stands_begun (Some state) faults asked spent waiting source out unread number =
-    record { at = begun state []; talks = still (begun state []); told = refl; number = number; held = refl; input = unread }
+    record { at = begun state []; talks = still (begun state []); spends = spending.begun; told = refl; number = number; held = refl; input = unread }
 
 pub nothing_awaited : (source : SourceState) → IsAwaited source [] source
 nothing_awaited source = untaken LeavesOpen source

@@ -6,6 +6,8 @@
 --     Seen Is P                       of a state that it is, this
 --     IsReplied state edit line told  the line is the reply, and what is told then is the next state
 --     Comes before edit result after  what comes of an edit
+--     EditSpends before edit after    how many steps it takes: as many at most as a generation, where it needs one, and
+--                                     of a state that is told no more than is fresh
 --     Edits before edit result after  an edit is made, and its reply given
 --     EditsFrom Before edit result After      the same from each state that it is to one that it is then
 --     Shows state map                 the map is the state's
@@ -13,6 +15,7 @@ use Rattle.std.specs.Prelude.{◌≡◌, ◌≤◌, ◌+◌, ◌*◌, ◌++◌, 
 use Rattle.tree_spec.specs.Counts.{Rose}
 use Rattle.session_spec.specs.declared.Change.{Change}
 use Rattle.session_spec.specs.EditLooks.{IsEditLook}
+use Rattle.session_spec.specs.Frugality.{IsFrugal}
 use Rattle.session_spec.specs.Replies.{Replies}
 use Rattle.session_spec.specs.SessionStates.{SessionState}
 use Rattle.session_spec.specs.SessionSteps.{generations, most_steps}
@@ -56,11 +59,15 @@ Comes before edit (Ok line) after = EditsTold before edit line after
 Comes before edit (Err ReadFault) after = Rose before.faults after.faults
 Comes before edit (Err Memory) after = after.faults ≡ before.faults
 
+pub record EditSpends (before : EditorState) (edit : List Change) (after : EditorState) : Type 0 where
+  pub most : after.spent ≤ before.spent + generations edit * most_steps
+  pub frugal : IfSome before.told (λ state. IsFrugal state edit before.spent after.spent)
+
 pub record Edits (before : EditorState) (edit : List Change) (result : Result (List ℕ) EditorFault)
     (after : EditorState) : Type 0 where
   pub comes : Comes before edit result after
   pub looks : EditsLook before edit after
-  pub steps : after.spent ≤ before.spent + generations edit * most_steps
+  pub steps : EditSpends before edit after
 
 abbrev pub EditsFrom :
     (EditorState → Type 0) → List Change → Result (List ℕ) EditorFault → (EditorState → Type 0) → Type 0

@@ -1,16 +1,18 @@
 -- Where the replies of a session stand, and how they end.
 --     Now                             all that a turn changes: who edits, what waits, the changes since a `begin`, the
 --                                     source and the sink
---     StandsAt state taken text now   of these bytes all that doesn't wait is read, and this text is replied
+--     StandsAt spent state taken text now     of these bytes all that doesn't wait is read, and this text is replied;
+--                                     spent: the steps that were taken at first
 --     Looks first input asked         the folder was asked for paths alone at which edits look to which this input
 --                                     comes
 --     MadeAt taken edits now          the lines of these bytes that don't wait make so many edits
 --     MadeBefore order taken edits now        so, but the last line that is read isn't obeyed yet
 --     Goes Stands Made first now      so far nothing failed, and it stands so; so many edits were made
---     OrderedAt number order state taken text now      so, but the last line that is read isn't obeyed yet
+--     OrderedAt spent number order state taken text now        so, but the last line that is read isn't obeyed yet
 --     GoesOn first now, IsOrdered number order first now      so far nothing failed, and it stands in one of both ways
 --     RepliesFront state taken text   the text is replies to lines of these bytes, as far as the limit allows
 --     RepliesAll state taken text     so, to each line that stands whole in them
+--     Spends first input editor       how many steps were taken for this input
 --     IsLastLine status line          a line with which a session ends, and its exit status
 --     IsShaped status text            a text that ends with such a line
 --     Says first editor source taken status text     why replies end with this status and text
@@ -36,11 +38,11 @@ use Rattle.session_spec.specs.Conversations.{Answers, stops, map_reply, end_repl
 use Rattle.session_spec.specs.SessionLines.{Order, Rest, reads, read_line}
 use Rattle.session_spec.specs.SessionLooks.{IsTriedLook}
 use Rattle.session_spec.specs.SessionStates.{SessionState}
-use Rattle.session_spec.specs.SessionSteps.{generations, MakesEdits, SpendsFor, most_steps}
+use Rattle.session_spec.specs.SessionSteps.{MakesEdits, SpendsFor, SpendsAt, EditsSpend, most_steps}
 use Rattle.session_spec.specs.TakenInput.{Takes, LeavesOpen, IsAwaited}
 use Rattle.session_spec.specs.Talks.{Standing, begun, turn_of, Talks}
 use Rattle.session_input.specs.Readers.{Waiting}
-use Rattle.session_talk.specs.Editors.{EditorState, AsksFor, EditsTold, EditsLook, Shows}
+use Rattle.session_talk.specs.Editors.{EditorState, AsksFor, EditsTold, EditsLook, EditSpends, Shows}
 
 pub record Now : Type 0 where
   pub editor : EditorState
@@ -55,18 +57,20 @@ now_at editor waiting held source out =
 
 -- ---- standing
 
-pub record StandsAt (state : SessionState) (taken text : List ℕ) (now : Now) : Type 0 where
+pub record StandsAt (spent : ℕ) (state : SessionState) (taken text : List ℕ) (now : Now) : Type 0 where
   pub at : Standing
   pub talks : Talks (begun state taken) text at
+  pub spends : SpendsAt state taken spent at now.editor.spent
   pub told : now.editor.told ≡ Some at.state
   pub number : now.waiting.number ≡ at.number
   pub held : now.held ≡ at.held
   pub input : now.waiting.unread ≡ at.input
 
-pub record OrderedAt (number : ℕ) (order : Order) (state : SessionState) (taken text : List ℕ)
+pub record OrderedAt (spent number : ℕ) (order : Order) (state : SessionState) (taken text : List ℕ)
     (now : Now) : Type 0 where
   pub at : Standing
   pub talks : Talks (begun state taken) text at
+  pub spends : SpendsAt state taken spent at now.editor.spent
   pub told : now.editor.told ≡ Some at.state
   pub line : number ≡ at.number
   pub held : now.held ≡ at.held
@@ -110,11 +114,12 @@ pub record Goes (Stands : SessionState → List ℕ → List ℕ → Type 0) (Ma
 
 abbrev pub GoesOn : Now → Now → Type 0
 GoesOn first now =
-    Goes (λ state taken text. StandsAt state taken text now) (λ taken edits. MadeAt taken edits now) first now
+    Goes (λ state taken text. StandsAt first.editor.spent state taken text now)
+    (λ taken edits. MadeAt taken edits now) first now
 
 abbrev pub IsOrdered : ℕ → Order → Now → Now → Type 0
 IsOrdered number order first now =
-    Goes (λ state taken text. OrderedAt number order state taken text now)
+    Goes (λ state taken text. OrderedAt first.editor.spent number order state taken text now)
     (λ taken edits. MadeBefore order taken edits now) first now
 
 -- ---- ends
@@ -127,6 +132,10 @@ pub record RepliesAll (state : SessionState) (taken text : List ℕ) : Type 0 wh
   pub later : Standing
   pub talks : Talks (begun state (take (limit_number Session) taken)) text later
   pub waits : turn_of later ≡ stops
+
+pub record Spends (first : Now) (input : List ℕ) (editor : EditorState) : Type 0 where
+  pub most : SpendsFor input first.editor.spent editor.spent
+  pub frugal : IfSome first.editor.told (λ state. EditsSpend state input first.editor.spent editor.spent)
 
 pub record IsQuiet (first : Now) (editor : EditorState) (source : SourceState) : Type 0 where
   pub editor_is : editor.faults ≡ first.editor.faults
@@ -182,7 +191,7 @@ pub record Converses (first : Now) (editor : EditorState) (source : SourceState)
   pub few : length taken ≤ limit_number Session + 1
   pub awaited : IsAwaited first.source taken source
   pub looks : Looks first (take (limit_number Session) taken) editor.asked
-  pub steps : SpendsFor (take (limit_number Session) taken) first.editor.spent editor.spent
+  pub steps : Spends first (take (limit_number Session) taken) editor
   pub stops : Stops first editor source out taken result
 
 -- ---- what a turn gives out
@@ -208,16 +217,15 @@ pub data Makes (before : EditorState) (edit : List Change) (out : SinkState) (af
     (out_after : SinkState) (result : Option ℕ) : Type 0 where
   replied :
       (line : List ℕ) → EditsTold before edit line after → EditsLook before edit after
-      → after.spent ≤ before.spent + generations edit * most_steps → GivesReply line out out_after result
+      → EditSpends before edit after → GivesReply line out out_after result
       → Makes before edit out after out_after result
   fails :
       (status : ℕ) → result ≡ Some status → Rose before.faults after.faults → EditsLook before edit after
-      → after.spent ≤ before.spent + generations edit * most_steps
-      → Ends read_fault_status read_fault_line out out_after status
+      → EditSpends before edit after → Ends read_fault_status read_fault_line out out_after status
       → Makes before edit out after out_after result
   wants :
       (status : ℕ) → result ≡ Some status → after.faults ≡ before.faults → EditsLook before edit after
-      → after.spent ≤ before.spent + generations edit * most_steps → Ends memory_status memory_line out out_after status
+      → EditSpends before edit after → Ends memory_status memory_line out out_after status
       → Makes before edit out after out_after result
 
 pub data ShowsMap (editor : EditorState) (out after : SinkState) (result : Option ℕ) : Type 0 where

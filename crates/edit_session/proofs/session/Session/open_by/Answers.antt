@@ -1,4 +1,6 @@
 use Rattle.std.proofs.Common.{refl}
+use Rattle.kept_trace.specs.Ready.{is_anew}
+use Rattle.edit_session.proofs.FrugalEdits.{opens_to_end}
 use Rattle.edit_session.proofs.MapsAgain.{right_empty}
 use Rattle.edit_session.proofs.SessionCalls.{opened, not_opened, opened_answers}
 use Rattle.edit_session.proofs.session.Session.open_by.Goals as goal
@@ -19,3 +21,15 @@ returns-in-Ok-clause-opens g c =
     c.map_again.new.answers.next c.exchange.new.self.kept c.exchange.ensures.kept c.requires.names
     ((rw c.in-Ok.is at c.map_again.ensures.keeps) right))
     refl c.in-Ok.ensures.page (rw c.in-Ok.is at (c.map_again.ensures.generates.is right))
+
+pub returns-in-Err-clause-by_trace : goal.returns-in-Err-clause-by_trace
+returns-in-Err-clause-by_trace g c =
+    opens_to_end (is_anew c.args.answers.kept) c.args.config (g.F.Folder.state c.args.folder.now) c.new-known.result
+    c.new-known.ensures.kept c.new-known.ensures.laid c.args.steps.now c.map_again.new.steps
+    (c.map_again.ensures.fresh (right_empty c.args.config.conditions c.args.answers.kept c.requires))
+
+pub returns-in-Ok-clause-by_trace : goal.returns-in-Ok-clause-by_trace
+returns-in-Ok-clause-by_trace g c =
+    opens_to_end (is_anew c.args.answers.kept) c.args.config (g.F.Folder.state c.args.folder.now) c.new-known.result
+    c.new-known.ensures.kept c.new-known.ensures.laid c.args.steps.now c.map_again.new.steps
+    (c.map_again.ensures.fresh (right_empty c.args.config.conditions c.args.answers.kept c.requires))
