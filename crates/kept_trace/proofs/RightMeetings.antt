@@ -6,12 +6,14 @@
 --     right_after          what is kept for the next trace is right then
 --     traces_if            a trace by what is kept
 --     traces_told, traced_named      the same, told otherwise
-use Rattle.std.proofs.Common.{◌≡◌, ◌++◌, ℕ, List, Option, Some, IfSome, Result, Err, refl, sym, ap, ◌∙◌, subst}
-use Rattle.std.specs.Prelude.{All, IfErr}
+--     looked_untold        of each path of its trail a look is known, whatever is kept
+use Rattle.std.proofs.Common.{◌≡◌, ◌++◌, ℕ, List, Option, Some, IfSome, Result, Ok, Err, refl, sym, ap, ◌∙◌, subst}
+use Rattle.std.specs.Prelude.{All, Contains, IfErr, IfOk}
 use Rattle.std.proofs.lemmas.List.{append_cancel_left}
 use Rattle.std.proofs.lemmas.List.Elements.{All-contains}
 use Rattle.asking_spec.specs.Askings.{Asking}
-use Rattle.tree_spec.proofs.Contained.{all_contained}
+use Rattle.tree_spec.proofs.Contained.{all_contained, contains_none}
+use Rattle.tree_spec.specs.LookLimits.{Trail, no_trail}
 use Rattle.tree_spec.specs.States.{FolderState}
 use Rattle.trace_spec.specs.Checks.{Gathered}
 use Rattle.trace_spec.specs.Modules.{Config}
@@ -26,6 +28,9 @@ use Rattle.package_lookup.specs.declared.known.Known.{Known}
 use Rattle.package_lookup.proofs.Learnings.{learns_as}
 use Rattle.trace_walk.specs.Kinds.{IsOfWalk}
 use Rattle.trace_walk.specs.Meeting.{AnswererState, IsAskedBy, Kept, Met}
+use Rattle.trace_walk.specs.Shown.{traced_of, before_of}
+use Rattle.trace_walk.specs.declared.tables.Tables.{Tables}
+use Rattle.request_trace.specs.Footprints.{IsFootprint}
 use Rattle.request_trace.specs.Answering.{Freshness, Keeping, Stays, told_by, answers_of}
 use Rattle.request_trace.specs.Tracing.{known_of, IsOfFootprint, Traces}
 use Rattle.kept_answers.specs.RightAnswers.{untold, untold_state}
@@ -206,3 +211,30 @@ pub traced_named : (right : Type 0) (config : Config) (before : State) (result :
 traced_named right config before result one other some later here there traces =
     subst (λ k. TracesIf right config before.folder before.known result other k) there
     (subst (λ f. TracesIf right config before.folder before.known result f some) here traces)
+
+looked_so : (right later : Type 0) (is_fresh later_fresh : Freshness) (keeping later_keeping : Keeping)
+    (stays others : Stays) (taken spent : ℕ) (config : Config) (before after : State) (all : Gathered)
+    → before.trail ≡ no_trail
+    → Met (answers_if right (answers_of is_fresh keeping stays taken before)) (trace config) (Ok all)
+    (answers_if later (answers_of later_fresh later_keeping others spent after))
+    → IsFootprint config (untold before.folder) before.known after.known after.trail.paths
+looked_so right later is_fresh later_fresh keeping later_keeping stays others taken spent config before after all first met =
+    record {
+      is = tt;
+      kept = met.covered (λ e. cc)
+          (λ path held. absurd (contains_none path (subst (λ (t : Trail). Contains t.paths path) first held)));
+    }
+
+pub looked_untold : (right later : Type 0) (is_fresh later_fresh : Freshness) (keeping later_keeping : Keeping)
+    (stays others : Stays) (taken spent : ℕ) (config : Config) (before after : State) (known : Known)
+    (paths : List (List ℕ)) (result : Result Tables TraceFault) → before.trail ≡ no_trail
+    → Met (answers_if right (answers_of is_fresh keeping stays taken before)) (trace config) (traced_of result)
+    (answers_if later (answers_of later_fresh later_keeping others spent after))
+    → after.known ≡ known → after.trail.paths ≡ paths
+    → IfOk result (λ tables. IsFootprint config (untold before.folder) before.known known paths)
+looked_untold right later is_fresh later_fresh keeping later_keeping stays others taken spent config before after known paths (Err fault) first met same alike = tt
+looked_untold right later is_fresh later_fresh keeping later_keeping stays others taken spent config before after known paths (Ok tables) first met same alike =
+    subst (λ k. IsFootprint config (untold before.folder) before.known k paths) same
+    (subst (λ ps. IsFootprint config (untold before.folder) before.known after.known ps) alike
+    (looked_so right later is_fresh later_fresh keeping later_keeping stays others taken spent config before after
+    (before_of tables) first met))

@@ -5,6 +5,7 @@ ghost use Rattle.request_trace.specs.Showing.{gathered_of};
 ghost use Rattle.request_trace.specs.Tracing.{TakesSteps, TakesFreshSteps};
 ghost use Rattle.trace_walk.specs.Shown.{traced_of};
 ghost use Rattle.trace_walk.specs.Walked.{AreWalked};
+ghost use Rattle.kept_answers.specs.RightAnswers.{untold};
 ghost use Rattle.kept_trace.specs.Keeping.{KeepsTraced};
 ghost use Rattle.kept_trace.specs.Ready.{AreAllRight, AreBothRight, AreUnderOne, is_anew};
 ghost use Rattle.kept_trace.specs.Tracing.{TracesIf};
@@ -38,6 +39,8 @@ impl TraceAnswers {
         ensures entries { IfOk result (λ trace. length trace.links.roots ≡ length config.now.entries) }
         ensures footprint { IfOk result (λ trace. AreAllRight self.old.kept
             → IsFootprint config.now (F.state folder.old) known.old known.new trace.footprint) }
+        ensures looked { IfOk result (λ trace. IsFootprint config.now (untold (F.state folder.old)) known.old known.new
+            trace.footprint) }
         ensures steps { TakesSteps result (λ trace. length trace.gathered.sources + length trace.gathered.targets)
             steps.old steps.new }
         ensures fresh { AreAllRight self.old.kept → TakesFreshSteps (is_anew self.old.kept) config.now
@@ -80,6 +83,8 @@ fn tables_again<F: Folder, L: Ledger>(
     requires under { AreUnderOne kept.now next.old }
     ensures footprint { IfOk result (λ tables. AreBothRight kept.now next.old
         → IsFootprint config.now (F.state folder.old) known.old known.new trail.new.paths) }
+    ensures looked { IfOk result (λ tables. IsFootprint config.now (untold (F.state folder.old)) known.old known.new
+        trail.new.paths) }
     ensures traces { TracesIf (AreBothRight kept.now next.old) config.now (F.state folder.old) known.old
         (traced_of result) (F.state folder.new) known.new }
     ensures tables { IfOk result (AreWalked config.now) }

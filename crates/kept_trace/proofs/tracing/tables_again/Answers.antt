@@ -13,7 +13,7 @@ use Rattle.kept_trace.specs.Keeping.{keeps, KeepsTraced}
 use Rattle.kept_trace.specs.Ready.{AreAllRight, AreBothRight, is_anew}
 use Rattle.kept_trace.proofs.AskedKept.{kept_left}
 use Rattle.kept_trace.proofs.Naming.{first_name, second_name, third_name, fourth_name, fifth_name}
-use Rattle.kept_trace.proofs.RightMeetings.{met_so, right_after, traces_if, traced_named}
+use Rattle.kept_trace.proofs.RightMeetings.{met_so, looked_untold, right_after, traces_if, traced_named}
 use Rattle.kept_trace.proofs.Walking.{if_ok_so, on_ok_so}
 use Rattle.kept_trace.proofs.tracing.tables_again.Goals as goal
 
@@ -35,6 +35,18 @@ returns-clause-footprint g c =
     after _ _ c.walk.result c.requires.first
     (met_so (AreBothRight c.args.kept.now c.args.next.now) _ (is_anew c.args.kept.now) _ (keeps c.args.next.now) _ _ _ _ _
     before after (trace c.args.config.now) (traced_of c.walk.result) c.walk.ensures.met right) (search rules) (search rules))
+
+pub returns-clause-looked : goal.returns-clause-looked
+returns-clause-looked g c =
+    let names = ap (λ (keeps : Kept). keeps.references) c.walk.ensures.met.keeps in
+    let known_named : c.walk.new.answerer.lookup.known.ghost_name ≡ _ = second_name names in
+    let trail_named : c.walk.new.answerer.lookup.trail.ghost_name ≡ _ = fourth_name names in
+    let old = g.F.Folder.state c.args.folder.now in
+    let new = g.F.Folder.state c.walk.new.answerer.lookup.folder.now in
+    let before = state old c.args.known.now c.args.trail.now in
+    let after = state new c.walk.new.answerer.lookup.known.now c.walk.new.answerer.lookup.trail.now in
+    looked_untold (AreBothRight c.args.kept.now c.args.next.now) _ (is_anew c.args.kept.now) _ (keeps c.args.next.now) _ _ _
+    _ _ c.args.config.now before after _ _ c.walk.result c.requires.first c.walk.ensures.met (search rules) (search rules)
 
 pub returns-clause-traces : goal.returns-clause-traces
 returns-clause-traces g c =

@@ -6,6 +6,7 @@ use Rattle.trace_walk.specs.Shown.{before_of}
 use Rattle.request_trace.specs.Footprints.{IsFootprint}
 use Rattle.request_trace.specs.Showing.{Traced, gathered_of}
 use Rattle.request_trace.proofs.JoinedTables.{traces_lost, as_trace, takes_trace}
+use Rattle.kept_answers.specs.RightAnswers.{untold}
 use Rattle.kept_trace.specs.Ready.{AreAllRight}
 use Rattle.kept_trace.specs.Tracing.{TracesIf}
 use Rattle.kept_trace.proofs.Readying.{right_with_none, right_still}
@@ -41,6 +42,11 @@ returns-clause-footprint g c = λ right.
     subst (IsFootprint c.args.config.now (g.F.Folder.state c.args.folder.now) c.args.known.now c.tables_again.new.known)
     (sym c.in_ok-trace.ensures.footprint)
     (c.in_ok-tables.ensures.footprint (right_with_none _ c.args.self.now.kept c.clear.new.self c.clear.ensures right))
+
+pub returns-clause-looked : goal.returns-clause-looked
+returns-clause-looked g c =
+    subst (IsFootprint c.args.config.now (untold (g.F.Folder.state c.args.folder.now)) c.args.known.now c.tables_again.new.known)
+    (sym c.in_ok-trace.ensures.footprint) c.in_ok-tables.ensures.looked
 
 pub returns-clause-steps : goal.returns-clause-steps
 returns-clause-steps g c = record {
