@@ -6,7 +6,7 @@
 --     HasLike other rest v            a module under these slots is like v
 --     IsFound graph slots other rest left keeps      to each of the slots `rest` of another graph the one among `slots`
 --                                     that is kept, or none; `left` has each of `slots` that isn't kept
-use Rattle.std.specs.Prelude.{◌≡◌, ◌⊎◌, ◌+◌, ℕ, List, All, length, map, slice_get, slice_set, Option, Some, None}
+use Rattle.std.specs.Prelude.{◌≡◌, ◌≢◌, ◌⊎◌, ◌+◌, ℕ, List, All, length, map, slice_get, slice_set, Option, Some, None}
 use Rattle.slot_arena.specs.Slots.{Place, value_at}
 use Rattle.slot_arena.specs.declared.slot.Slot.{Slot}
 use Rattle.module_graph.specs.declared.module.Module as vertex
@@ -50,7 +50,7 @@ pub record IsFound (graph : List (Place vertex.Module)) (slots : List Slot) (oth
   pub kept : AreKept graph other keeps rest
   pub live : All (IsLive graph) (somes keeps)
   pub apart : AreApart (somes keeps)
-  pub stays : All (λ s. All (λ t. t ≡ s → ⊥) (somes left)) (somes keeps)
+  pub stays : All (λ s. All (λ t. t ≢ s) (somes left)) (somes keeps)
   pub left_apart : AreApart (somes left)
   pub left_live : All (IsLive graph) (somes left)
   pub counts : length (somes left) + length (somes keeps) ≡ length slots

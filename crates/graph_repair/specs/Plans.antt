@@ -12,7 +12,7 @@
 --     IsPlanned made old l plan      the plan is one for what is shown and this trace, made where there were so many
 --                                places: it begins a new graph where these and the added modules reach the most
 use Rattle.std.specs.Prelude.{◌≡◌, ⊤, ℕ, ◌+◌, ◌≤◌, ◌<◌, List, [], ◌∷◌, All, length, map, reverse, Option, Some, None}
-use Rattle.std.specs.Prelude.{◌↔◌, vec_len, vec_capacity}
+use Rattle.std.specs.Prelude.{◌↔◌, ◌≢◌, vec_len, vec_capacity}
 use Rattle.slot_arena.specs.Slots.{Place, value_at, IsGiven}
 use Rattle.slot_arena.specs.Counts.{spare, live}
 use Rattle.slot_arena.specs.declared.slot.Slot.{Slot}
@@ -69,7 +69,7 @@ pub record IsReady (g : List (Place vertex.Module)) (l : Links) (parts : Parts) 
   pub led : map (led_by l.slots) parts.leads.items ≡ all_targets l
   pub counted : requests_in modules ≡ length parts.leads.items
   pub apart : AreApart (somes parts.keeps.items)
-  pub stays : All (λ s. All (λ t. t ≡ s → ⊥) parts.gone.items) (somes parts.keeps.items)
+  pub stays : All (λ s. All (λ t. t ≢ s) parts.gone.items) (somes parts.keeps.items)
   pub gone_apart : AreApart parts.gone.items
   pub gone_live : All (IsLive g) parts.gone.items
   pub alone : length parts.gone.items + length (somes parts.keeps.items) ≡ live g

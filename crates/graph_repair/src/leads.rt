@@ -1,9 +1,7 @@
-ghost use Rattle.std.specs.Prelude.{◌≡◌, ◌<◌, ◌++◌, All, IfOk, OnOk, ℕ, length, map, get_or, slice_get, Some};
-ghost use Rattle.module_graph.specs.declared.module.Module as declared_module;
-ghost use Rattle.slot_arena.specs.Slots.{value_at};
-ghost use Rattle.trace_graph.specs.Links.{IsLinked, all_targets};
+ghost use Rattle.std.specs.Prelude.{◌≡◌, ◌<◌, ◌≤◌, ◌++◌, All, IfOk, OnOk, length, map, slice_set};
 ghost use Rattle.graph_repair.specs.Leads.{place_in, AreInTheirPlaces, AreByPlace, targets_under};
 
+use crate::parts::slot_at;
 use module_graph::{ModuleView, Slot, View};
 use shared_types::Memory;
 use std::alloc::Global;
@@ -66,10 +64,17 @@ fn places_of(alloc: Global, slots: &[Slot]) -> Result<Vec<usize>, Memory>
     places.resize(most_index(slots), 0)?;
     let mut place = 0;
     while place < slots.len() {
-        places[slots[place].index as usize] = place;
+        set_place(&mut places, slot_at(slots, place), place);
         place += 1;
     }
     Ok(places)
+}
+
+fn set_place(places: &mut Vec<usize>, slot: Slot, place: usize)
+    requires { slot.index < length places.old.items }
+    ensures { places.new.items ≡ slice_set places.old.items slot.index place }
+{
+    places[slot.index as usize] = place;
 }
 
 // A number above the indexes of these slots.
@@ -79,10 +84,18 @@ fn most_index(slots: &[Slot]) -> usize
     let mut most = 0;
     let mut rest = slots;
     while let Some((slot, more)) = rest.split_first() {
-        if slot.index as usize >= most {
-            most = slot.index as usize + 1;
-        }
+        most = above(most, *slot);
         rest = more;
+    }
+    most
+}
+
+fn above(most: usize, slot: Slot) -> usize
+    ensures no_less { most ≤ result }
+    ensures above { slot.index < result }
+{
+    if slot.index as usize >= most {
+        return slot.index as usize + 1;
     }
     most
 }

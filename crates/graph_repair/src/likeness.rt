@@ -1,4 +1,4 @@
-ghost use Rattle.std.specs.Prelude.{◌≡◌, ◌↔◌, IsTrue, map, option_copied};
+ghost use Rattle.std.specs.Prelude.{◌≡◌, ◌↔◌, IsTrue, map};
 ghost use Rattle.module_spec.specs.declared.request.Request.{Request};
 ghost use Rattle.slot_arena.specs.Slots.{value_at};
 ghost use Rattle.module_graph.specs.Modules.{asked_at};
@@ -41,21 +41,21 @@ fn ask_alike(own: &ModuleView<'_>, other: &ModuleView<'_>) -> bool
         return false;
     }
     for index in 0..count {
-        if !is_same_text(own.request(index), other.request(index)) {
+        if !asks_alike_at(own, other, index) {
             return false;
         }
     }
     true
 }
 
-fn is_same_text(own: Option<&str>, other: Option<&str>) -> bool
-    ensures { IsTrue result ↔ (option_copied own ≡ option_copied other) }
+fn asks_alike_at(own: &ModuleView<'_>, other: &ModuleView<'_>, index: usize) -> bool
+    ensures { IsTrue result ↔ (asked_at own.now index ≡ asked_at other.now index) }
 {
-    match own {
-        Some(text) => match other {
+    match own.request(index) {
+        Some(text) => match other.request(index) {
             Some(wanted) => text == wanted,
             None => false,
         },
-        None => other.is_none(),
+        None => other.request(index).is_none(),
     }
 }

@@ -1,0 +1,158 @@
+-- A plan, from what is found.
+--     moved_found, moved_matching      what is found in a graph is found in one with the same modules
+--     ready_of                         the parts are ready
+--     nothing_found                    what is found in a new graph
+--     repairs_by                       a repair by a plan
+use Rattle.std.proofs.Common.{◌≡◌, ◌≢◌, ◌≤◌, ◌<◌, ◌+◌, ◌++◌, ℕ, zero, suc, List, [], ◌∷◌, length, map, reverse, replicate, Option, Some, None, refl, sym, ap, ◌∙◌, subst, arith, inl, inr}
+use Rattle.std.specs.Prelude.{All, slice_get, flat_map}
+use Rattle.std.proofs.lemmas.List.{length-map, length-reverse, reverse-reverse}
+use Rattle.std.proofs.lemmas.List.Elements.{All-nil, All-weaker}
+use Rattle.slot_arena.specs.Slots.{Place, value_at, IsGiven}
+use Rattle.slot_arena.specs.Counts.{spare, live}
+use Rattle.slot_arena.specs.declared.slot.Slot.{Slot}
+use Rattle.module_graph.specs.declared.module.Module as vertex
+use Rattle.module_graph.specs.Graphs.{AreModules}
+use Rattle.module_graph.specs.Calls.{Calls}
+use Rattle.module_graph.specs.Modules.{IsModule}
+use Rattle.module_graph.specs.Many.{AreApart}
+use Rattle.trace_spec.specs.Modules.{Module}
+use Rattle.trace_graph.specs.Links.{Links, IsLive, module_in, modules_of, all_targets}
+use Rattle.trace_graph.proofs.Showing.{all_reversed}
+use Rattle.graph_repair.specs.declared.parts.Parts.{Parts}
+use Rattle.graph_repair.specs.declared.parts.Plan.{Plan}
+use Rattle.graph_repair.specs.Matching.{AreOnce, somes, missing, filled, IsAlike, AreKept, IsMatching}
+use Rattle.graph_repair.specs.Finding.{names, HasLike, IsFound}
+use Rattle.graph_repair.specs.Leads.{AreInTheirPlaces}
+use Rattle.graph_repair.specs.Repairs.{Repairs, Lasts, led_by}
+use Rattle.graph_repair.specs.Plans.{AreAdded, HasRoom, IsReady, IsRepaired, IsPlanned, shown, base}
+use Rattle.graph_repair.proofs.Joining.{Joined, join_all, added_well, added_count, kept_count}
+
+abbrev Vertex : Type 0
+Vertex = vertex.Module
+
+abbrev Places : Type 0
+Places = List (Place Vertex)
+
+-- ---- in a graph with the same modules
+
+map_same : {X Y : Type 0} (f h : X → Y) → ((x : X) → f x ≡ h x) → (xs : List X) → map f xs ≡ map h xs
+map_same f h same [] = refl
+map_same f h same (x ∷ xs) = λ i. same x i ∷ map_same f h same xs i
+
+kept_moved : (g h other : Places) → ((s : Slot) → value_at h s ≡ value_at g s) → (keeps : List (Option Slot)) (slots : List Slot) → AreKept g other keeps slots → AreKept h other keeps slots
+kept_moved g h other same [] [] kept = tt
+kept_moved g h other same [] (s ∷ slots) kept = absurd kept
+kept_moved g h other same (None ∷ keeps) [] kept = absurd kept
+kept_moved g h other same (Some k ∷ keeps) [] kept = absurd kept
+kept_moved g h other same (None ∷ keeps) (s ∷ slots) kept = kept_moved g h other same keeps slots kept
+kept_moved g h other same (Some k ∷ keeps) (s ∷ slots) kept = (
+  subst (λ o. IsAlike o (value_at other s)) (sym (same k)) kept.0,
+  kept_moved g h other same keeps slots kept.1,
+)
+
+live_moved : (g h : Places) → ((s : Slot) → value_at h s ≡ value_at g s) → (slots : List Slot) → All (IsLive g) slots → All (IsLive h) slots
+live_moved g h same slots all = All-weaker (IsLive g) (IsLive h) (λ s alive. (alive.0, same s ∙ alive.1)) slots all
+
+module _ (g h : Places) (slots : List Slot) (other : Places) (rest : List Slot) (left keeps : List (Option Slot)) (same : (s : Slot) → value_at h s ≡ value_at g s)
+    (found : IsFound g slots other rest left keeps) where
+  names_same : names h slots ≡ names g slots
+  names_same = map_same (λ s. module_in (value_at h s)) (λ s. module_in (value_at g s)) (λ s. ap module_in (same s)) slots
+
+  pub moved_found : IsFound h slots other rest left keeps
+  moved_found = record {
+    kept = kept_moved g h other same keeps rest found.kept;
+    live = live_moved g h same (somes keeps) found.live;
+    apart = found.apart;
+    stays = found.stays;
+    left_apart = found.left_apart;
+    left_live = live_moved g h same (somes left) found.left_live;
+    counts = found.counts;
+    found = λ once other_once i j s t at there alike.
+        found.found (subst AreOnce names_same once) other_once i j s t at there (subst (λ o. IsAlike o (value_at other t)) (same s) alike);
+    tracked = λ i s at.
+        elim (found.tracked i s at) [
+          | inl is ↦ inl is
+          | inr like ↦ inr (subst (HasLike other rest) (sym (same s)) like)
+        ];
+  }
+
+pub matching_of : (g : Places) (slots : List Slot) (l : Links) (left keeps : List (Option Slot)) → IsFound g slots l.graph l.slots left keeps
+    → IsMatching (shown g slots) l keeps
+matching_of g slots l left keeps found = record { kept = found.kept; apart = found.apart; found = found.found }
+
+-- ---- parts that are ready
+
+pub ready_of : (g : Places) (slots : List Slot) (l : Links) (left : List (Option Slot)) (parts : Parts) → IsFound g slots l.graph l.slots left parts.keeps.items → live g ≡ length slots
+    → AreModules g → AreModules l.graph → parts.gone.items ≡ somes left → AreAdded l.graph parts.keeps.items l.slots (reverse parts.added.items)
+    → AreInTheirPlaces l parts.leads.items → HasRoom parts → missing parts.keeps.items ≤ spare g → IsReady g l parts
+ready_of g slots l left parts found many own theirs gone all leads room enough =
+    let keeps = parts.keeps.items in
+    let joined = join_all g l.graph parts.keeps.items l.slots (reverse parts.added.items) own theirs found.kept all in
+    let count = added_count l.graph parts.keeps.items l.slots (reverse parts.added.items) all in
+    let reversed = length-reverse parts.added.items in
+    record {
+      modules = joined.modules;
+      are = joined.are;
+      modules_are = joined.modules_are;
+      sources_are = joined.sources_are;
+      well_made = joined.well_made;
+      added_well = subst (All IsModule) (reverse-reverse parts.added.items)
+          (all_reversed IsModule (reverse parts.added.items) (added_well l.graph parts.keeps.items l.slots (reverse parts.added.items) all));
+      within = leads.within;
+      led = leads.led;
+      counted = joined.counted ∙ (sym (ap length leads.led) ∙ length-map parts.leads.items (led_by l.slots));
+      apart = found.apart;
+      stays = subst (λ gone. All (λ s. All (λ t. t ≢ s) gone) (somes parts.keeps.items)) (sym gone) found.stays;
+      gone_apart = subst AreApart (sym gone) found.left_apart;
+      gone_live = subst (All (IsLive g)) (sym gone) found.left_live;
+      alone = (let left_too = ap length gone in let counts = found.counts in omega (arith, left_too, counts, many));
+      enough = count ∙ reversed;
+      count = kept_count g l.graph parts.keeps.items l.slots found.kept;
+      has_spare = omega (arith, count, reversed, enough);
+      room = room;
+    }
+
+-- ---- a new graph
+
+none_kept : (g other : Places) (slots : List Slot) → AreKept g other (replicate (length slots) None) slots
+none_kept g other [] = tt
+none_kept g other (s ∷ slots) = none_kept g other slots
+
+no_somes : (n : ℕ) → somes (replicate n None) ≡ []
+no_somes zero = refl
+no_somes (suc n) = no_somes n
+
+pub nothing_found : (g other : Places) (slots : List Slot) (keeps : List (Option Slot)) → keeps ≡ replicate (length slots) None → IsFound g [] other slots [] keeps
+nothing_found g other slots keeps is =
+    let none : somes keeps ≡ [] = ap somes is ∙ no_somes (length slots) in
+    record {
+      kept = subst (λ ks. AreKept g other ks slots) (sym is) (none_kept g other slots);
+      live = subst (All (IsLive g)) (sym none) (All-nil (IsLive g));
+      apart = subst AreApart (sym none) tt;
+      stays = subst (All (λ s. All (λ t. t ≢ s) [])) (sym none) (All-nil (λ s. All (λ t. t ≢ s) []));
+      left_apart = tt;
+      left_live = All-nil (IsLive g);
+      counts = ap length none;
+      found = λ once other_once i j s t at. absurd (let bad : None ≡ Some s = at in cc);
+      tracked = λ i s at. absurd (let bad : None ≡ Some s = at in cc);
+    }
+
+-- ---- a repair by a plan
+
+pub repairs_by : (made : ℕ) (old l : Links) (plan : Plan) (new : Links) → IsPlanned made old l plan → IsRepaired (base old.graph plan.begun) l plan.parts new
+    → Repairs made old l new
+repairs_by made old l plan new planned repaired = record {
+  copy = repaired.copy;
+  linked = repaired.linked;
+  keeps = planned.keeps;
+  matching = planned.matching;
+  lasts = λ few.
+      (let none : plan.begun ≡ None = planned.renews.1 few in
+          let same : base old.graph plan.begun ≡ old.graph = ap (base old.graph) none in
+          record {
+            calls = subst (λ g. Calls g new.graph) same repaired.lasts.calls;
+            given = repaired.lasts.given;
+            slots = repaired.lasts.slots ∙ ap (λ ks. filled ks repaired.lasts.given) (planned.going none);
+            never = subst (λ g. All (λ s. IsGiven g s → ⊥) repaired.lasts.given) same repaired.lasts.never;
+          });
+}
