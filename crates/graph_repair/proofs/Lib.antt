@@ -3,5 +3,7 @@ mod GivenSlots
 mod Filling
 mod Joining
 mod Led
+mod FoundModules
+mod KeyedPlaces
 mod Repairing
-mod Planning
+mod PlannedParts

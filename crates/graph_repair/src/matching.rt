@@ -66,6 +66,7 @@ fn table_of(
     shown: &View<'_>,
     own: &[Slot],
 ) -> Result<HashMap<ModuleKey, usize>, Memory>
+    requires { All (IsLive shown.now) own.now }
     ensures { IfOk result (λ table. AreByKey shown.now own.now (map.get is_module table)) }
 {
     let mut table = HashMap::new(alloc);

@@ -5,11 +5,11 @@ use Rattle.graph_repair.specs.Leads.{HasOwnIndexes}
 use Rattle.graph_repair.proofs.leads.places_of.Given as goal
 
 -- the slots before this one have their places in the table, and there is room for each
-abbrev pub invariant-loop : goal.invariant-loop
-invariant-loop l = record {
+abbrev pub invariant-loop-place : goal.invariant-loop-place
+invariant-loop-place l = record {
   within : All (λ s. s.index < length l.places.items) l.slots;
   placed : HasOwnIndexes l.slots → (i : ℕ) (t : Slot) → i < l.place → slice_get l.slots i ≡ Some t → get_or l.places.items t.index 0 ≡ i;
 }
 
-abbrev pub decreases-loop : goal.decreases-loop
-decreases-loop l = length l.slots - l.place
+abbrev pub decreases-loop-place : goal.decreases-loop-place
+decreases-loop-place l = length l.slots - l.place

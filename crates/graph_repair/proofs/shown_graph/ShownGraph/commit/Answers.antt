@@ -1,4 +1,4 @@
-use Rattle.graph_repair.proofs.Planning.{repairs_by, ready_of}
+use Rattle.graph_repair.proofs.PlannedParts.{repairs_by, ready_of}
 use Rattle.graph_repair.proofs.shown_graph.ShownGraph.commit.Goals as goal
 
 pub returns : goal.returns
