@@ -1,8 +1,10 @@
 -- One module more is found, or isn't.
 --     nothing_yet      before the last module
 --     found_more       a module in front of those that are found
-use Rattle.std.proofs.Common.{◌≡◌, ◌≢◌, ◌≤◌, ◌<◌, ◌+◌, ◌⊎◌, ℕ, zero, suc, List, [], ◌∷◌, length, map, Option, Some, None, option_map, refl, sym, ap, ◌∙◌, subst, inl, inr, arith}
+use Rattle.std.proofs.Common.{◌≡◌, ◌≢◌, ◌≤◌, ◌<◌, ◌+◌, ◌⊎◌, ◌++◌, ℕ, zero, suc, List, [], ◌∷◌, length, map, drop, reverse, Option, Some, None, option_map, refl, sym, ap, ◌∙◌, subst, inl, inr, arith}
 use Rattle.std.specs.Prelude.{All, slice_get, slice_set}
+use Rattle.std.proofs.lemmas.List.{reverse-append}
+use Rattle.shared_types.proofs.ListSteps.{drop_at}
 use Rattle.std.proofs.lemmas.List.Elements.{All-nil, All-cons, All-head, All-tail, All-weaker}
 use Rattle.std.proofs.lemmas.Option.{slice_get-map}
 use Rattle.slot_arena.specs.Slots.{Place, value_at}
@@ -236,3 +238,12 @@ nothing_yet g slots other left is apart alive =
       found = λ once other_once i j s u at there. absurd (let bad : None ≡ Some u = there in cc);
       tracked = λ i s at. inl (ap (λ ls. slice_get ls i) is ∙ (slice_get-map Some slots i ∙ ap (option_map Some) at));
     }
+
+-- the module at a place, in front of those behind it
+pub found_at : (g : Places) (slots : List Slot) (other : Places) (find : Module → Option ℕ) → AreByKey g slots find → (theirs : List Slot) (p q : ℕ) (t : Slot)
+    (left after keeps pushed : List (Option Slot)) (keep : Option Slot) → slice_get theirs p ≡ Some t → q ≡ p + 1 → IsFound g slots other (drop q theirs) left (reverse keeps)
+    → Keeps g find (value_at other t) left after keep → pushed ≡ keeps ++ keep ∷ [] → IsFound g slots other (drop p theirs) after (reverse pushed)
+found_at g slots other find by theirs p q t left after keeps pushed keep at next found kept is =
+    subst (λ rest. IsFound g slots other rest after (reverse pushed)) (sym (drop_at theirs p t at))
+    (subst (λ ks. IsFound g slots other (t ∷ drop (p + 1) theirs) after ks) (sym (ap reverse is ∙ reverse-append keeps (keep ∷ [])))
+    (found_more g slots other find by t (drop (p + 1) theirs) left (reverse keeps) (subst (λ n. IsFound g slots other (drop n theirs) left (reverse keeps)) next found) after keep kept))

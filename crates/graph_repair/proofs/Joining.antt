@@ -1,22 +1,23 @@
 -- What is kept and what is added, joined in trace order.
 --     join_all       the modules at all places are those of the trace
 --     added_well, added_count, kept_count      how many they are, and that they are well made
-use Rattle.std.proofs.Common.{◌≡◌, ◌+◌, ◌++◌, ℕ, zero, suc, List, [], ◌∷◌, length, map, Option, Some, None, refl, sym, ap, ◌∙◌, subst, arith, length-append}
-use Rattle.std.specs.Prelude.{All, flat_map}
-use Rattle.std.proofs.lemmas.List.{length-map}
+use Rattle.std.proofs.Common.{◌≡◌, ◌+◌, ◌++◌, ℕ, zero, suc, List, [], ◌∷◌, ◌≤◌, length, map, drop, reverse, Option, Some, None, refl, sym, ap, ◌∙◌, subst, arith, length-append}
+use Rattle.std.specs.Prelude.{All, flat_map, slice_get}
+use Rattle.std.proofs.lemmas.List.{length-map, reverse-append, drop_all}
+use Rattle.shared_types.proofs.ListSteps.{drop_at}
 use Rattle.std.proofs.lemmas.List.Elements.{All-nil, All-cons}
 use Rattle.slot_arena.specs.Slots.{Place, value_at}
 use Rattle.slot_arena.specs.declared.slot.Slot.{Slot}
 use Rattle.module_spec.specs.declared.request.Request.{Request}
 use Rattle.module_graph.specs.declared.module.Module as vertex
 use Rattle.module_graph.specs.Graphs.{AreModules}
-use Rattle.module_graph.specs.Modules.{IsModule}
+use Rattle.module_graph.specs.Modules.{IsModule, IsUntied}
 use Rattle.module_graph.specs.Many.{requests_in}
 use Rattle.module_graph.proofs.WellMade.{live_is_module}
 use Rattle.trace_spec.specs.Questions.{Source}
 use Rattle.trace_graph.specs.Links.{module_of, source_of, module_in, source_in, targets_in}
 use Rattle.graph_repair.specs.Matching.{missing, IsSame, IsAlike, AreKept}
-use Rattle.graph_repair.specs.Plans.{merged, AreAdded, IsUntiedFrom}
+use Rattle.graph_repair.specs.Plans.{merged, AreAdded, AddsOne, IsUntiedFrom}
 
 abbrev Vertex : Type 0
 Vertex = vertex.Module
@@ -131,3 +132,20 @@ kept_count g other (None ∷ keeps) [] kept = absurd kept
 kept_count g other (Some k ∷ keeps) [] kept = absurd kept
 kept_count g other (None ∷ keeps) (s ∷ slots) kept = ap (λ n. suc n) (kept_count g other keeps slots kept)
 kept_count g other (Some k ∷ keeps) (s ∷ slots) kept = ap (λ n. suc n) (kept_count g other keeps slots kept.1)
+
+-- the module at a place, in front of those behind it
+pub added_at : (other : Places) (keeps : List (Option Slot)) (theirs : List Slot) (p q : ℕ) (k : Option Slot) (t : Slot) (more after : List Vertex) → slice_get keeps p ≡ Some k
+    → slice_get theirs p ≡ Some t → q ≡ p + 1 → AreAdded other (drop q keeps) (drop q theirs) more → AddsOne other k t more after → AreAdded other (drop p keeps) (drop p theirs) after
+added_at other keeps theirs p q k t more after kept at next all one =
+    subst (λ ks. AreAdded other ks (drop p theirs) after) (sym (drop_at keeps p k kept))
+    (subst (λ ts. AreAdded other (k ∷ drop (p + 1) keeps) ts after) (sym (drop_at theirs p t at))
+    (one (drop (p + 1) keeps) (drop (p + 1) theirs) (subst (λ n. AreAdded other (drop n keeps) (drop n theirs) more) next all)))
+
+pub adds_untied : (other : Places) (s : Slot) (m of : Vertex) (more after : List Vertex) → value_at other s ≡ Some of → IsUntied of m → after ≡ more ++ m ∷ []
+    → AddsOne other None s (reverse more) (reverse after)
+adds_untied other s m of more after there untied is keeps slots all =
+    subst (AreAdded other (None ∷ keeps) (s ∷ slots)) (sym (ap reverse is ∙ reverse-append more (m ∷ [])))
+    (record { of = of; there = there; untied = untied }, all)
+
+pub none_added : (other : Places) (keeps : List (Option Slot)) (theirs : List Slot) (n : ℕ) → length keeps ≤ n → AreAdded other (drop n keeps) (drop n theirs) []
+none_added other keeps theirs n past = subst (λ ks. AreAdded other ks (drop n theirs) []) (sym (drop_all n keeps past)) tt

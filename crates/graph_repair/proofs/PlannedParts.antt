@@ -7,24 +7,25 @@ use Rattle.std.proofs.Common.{◌≡◌, ◌≢◌, ◌≤◌, ◌<◌, ◌+◌,
 use Rattle.std.specs.Prelude.{All, slice_get, flat_map}
 use Rattle.std.proofs.lemmas.List.{length-map, length-reverse, reverse-reverse}
 use Rattle.std.proofs.lemmas.List.Elements.{All-nil, All-weaker}
-use Rattle.slot_arena.specs.Slots.{Place, value_at, IsGiven}
+use Rattle.slot_arena.specs.Slots.{Place, value_at, IsGiven, with_places}
+use Rattle.slot_arena.proofs.SlotLaws.{each_grows}
 use Rattle.slot_arena.specs.Counts.{spare, live}
 use Rattle.slot_arena.specs.declared.slot.Slot.{Slot}
 use Rattle.module_graph.specs.declared.module.Module as vertex
 use Rattle.module_graph.specs.Graphs.{AreModules}
-use Rattle.module_graph.specs.Calls.{Calls}
+use Rattle.module_graph.specs.Calls.{Calls, begin, reserved}
 use Rattle.module_graph.specs.Modules.{IsModule}
 use Rattle.module_graph.specs.Many.{AreApart}
 use Rattle.trace_spec.specs.Modules.{Module}
-use Rattle.trace_graph.specs.Links.{Links, IsLive, module_in, modules_of, all_targets}
+use Rattle.trace_graph.specs.Links.{Links, IsLinked, IsLive, IsSet, module_in, targets_in, modules_of, all_targets}
 use Rattle.trace_graph.proofs.Showing.{all_reversed}
 use Rattle.graph_repair.specs.declared.parts.Parts.{Parts}
 use Rattle.graph_repair.specs.declared.parts.Plan.{Plan}
 use Rattle.graph_repair.specs.Matching.{AreOnce, somes, missing, filled, IsAlike, AreKept, IsMatching}
 use Rattle.graph_repair.specs.Finding.{names, HasLike, IsFound}
 use Rattle.graph_repair.specs.Leads.{AreInTheirPlaces}
-use Rattle.graph_repair.specs.Repairs.{Repairs, Lasts, led_by}
-use Rattle.graph_repair.specs.Plans.{AreAdded, HasRoom, IsReady, IsRepaired, IsPlanned, shown, base}
+use Rattle.graph_repair.specs.Repairs.{Repairs, Lasts, ShowsSame, led_by, most_made}
+use Rattle.graph_repair.specs.Plans.{AreAdded, HasRoom, IsReady, IsRepaired, IsBegun, IsPlanned, shown, base}
 use Rattle.graph_repair.proofs.Joining.{Joined, join_all, added_well, added_count, kept_count}
 
 abbrev Vertex : Type 0
@@ -155,4 +156,61 @@ repairs_by made old l plan new planned repaired = record {
             slots = repaired.lasts.slots ∙ ap (λ ks. filled ks repaired.lasts.given) (planned.going none);
             never = subst (λ g. All (λ s. IsGiven g s → ⊥) repaired.lasts.given) same repaired.lasts.never;
           });
+}
+
+-- ---- a graph that shows the same
+
+values_same : (g h : Places) → ((s : Slot) → value_at h s ≡ value_at g s) → value_at h ≡ value_at g
+values_same g h same = λ i s. same s i
+
+pub linked_moved : (g h : Places) (slots : List Slot) → ShowsSame (shown g slots) (shown h slots) → IsLinked (shown g slots) → IsLinked (shown h slots)
+linked_moved g h slots same linked = record {
+  slots = live_moved g h same.values slots linked.slots;
+  roots = All-nil (IsLive h);
+  targets = subst (All (IsSet h)) (ap (λ (f : Slot → Option Vertex). flat_map (λ s. targets_in (f s)) slots) (sym (values_same g h same.values)))
+      (All-weaker (IsSet g) (IsSet h) set_moved (flat_map (λ s. targets_in (value_at g s)) slots) linked.targets);
+  apart = linked.apart;
+  alone = same.as_many ∙ linked.alone;
+}
+  where
+    set_moved : (target : Option Slot) → IsSet g target → IsSet h target
+    set_moved None set = set
+    set_moved (Some s) alive = (alive.0, same.values s ∙ alive.1)
+
+pub shows_itself : (l : Links) → ShowsSame l l
+shows_itself l = record { calls = begin; slots = refl; values = λ s. refl; as_many = refl }
+
+pub shows_grown : (g h : Places) (n : ℕ) (slots : List Slot) → h ≡ with_places g n → ShowsSame (shown g slots) (shown h slots)
+shows_grown g h n slots is =
+    let law = each_grows Vertex g n in
+    record {
+      calls = subst (Calls g) (sym is) (reserved n begin);
+      slots = refl;
+      values = λ s. ap (λ a. value_at a s) is ∙ law.everywhere s;
+      as_many = ap live is ∙ law.as_live;
+    }
+
+-- ---- a plan that keeps the graph, and one that begins another
+
+pub planned_on : (made : ℕ) (g h : Places) (slots : List Slot) (l : Links) (left : List (Option Slot)) (plan : Plan) → ((s : Slot) → value_at h s ≡ value_at g s) → live h ≡ live g
+    → IsFound g slots l.graph l.slots left plan.parts.keeps.items → live g ≡ length slots → plan.begun ≡ None → made + missing plan.parts.keeps.items < most_made
+    → (IsFound h slots l.graph l.slots left plan.parts.keeps.items → live h ≡ length slots → IsReady h l plan.parts) → IsPlanned made (shown h slots) l plan
+planned_on made g h slots l left plan same many found alone none few ready =
+    let there = moved_found g h slots l.graph l.slots left plan.parts.keeps.items same found in
+    record {
+      keeps = plan.parts.keeps.items;
+      matching = matching_of h slots l left plan.parts.keeps.items there;
+      renews = (λ is. few, λ below. none);
+      going = λ is. refl;
+      ready = subst (λ b. IsReady (base h b) l plan.parts) (sym none) (ready there (many ∙ alone));
+    }
+
+pub planned_anew : (made : ℕ) (h : Places) (slots : List Slot) (l : Links) (left keeps : List (Option Slot)) (plan : Plan) → IsFound h slots l.graph l.slots left keeps
+    → (made + missing keeps < most_made → ⊥) → IsBegun l plan → IsPlanned made (shown h slots) l plan
+planned_anew made h slots l left keeps plan found many begun = record {
+  keeps = keeps;
+  matching = matching_of h slots l left keeps found;
+  renews = (λ is. absurd (let bad : None ≡ Some begun.graph = sym is ∙ begun.begun in cc), λ below. absurd (many below));
+  going = λ is. absurd (let bad : None ≡ Some begun.graph = sym is ∙ begun.begun in cc);
+  ready = subst (λ b. IsReady (base h b) l plan.parts) (sym begun.begun) begun.ready;
 }

@@ -10,6 +10,7 @@
 --     most_made                  the number of places at which a new graph is begun
 use Rattle.std.specs.Prelude.{◌≡◌, ℕ, ◌+◌, ◌-◌, ◌^◌, ◌<◌, List, All, length, map, Some}
 use Rattle.slot_arena.specs.Slots.{Place, value_at, IsGiven}
+use Rattle.slot_arena.specs.Counts.{live}
 use Rattle.slot_arena.specs.declared.slot.Slot.{Slot}
 use Rattle.std.specs.Prelude.{Option}
 use Rattle.module_graph.specs.Calls.{Calls}
@@ -39,6 +40,7 @@ pub record ShowsSame (old new : Links) : Type 0 where
   pub calls : Calls old.graph new.graph
   pub slots : new.slots ≡ old.slots
   pub values : (s : Slot) → value_at new.graph s ≡ value_at old.graph s
+  pub as_many : live new.graph ≡ live old.graph
 
 abbrev pub most_made : ℕ
 most_made = 2 ^ 32 - 64

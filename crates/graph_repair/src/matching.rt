@@ -1,4 +1,4 @@
-ghost use Rattle.std.specs.Prelude.{◌≡◌, ◌<◌, ℕ, List, Option, Some, None, All, IfOk, OnOk, length, map, slice_get, slice_set, if◌then◌else◌};
+ghost use Rattle.std.specs.Prelude.{◌≡◌, ◌<◌, ◌++◌, ◌∷◌, [], ℕ, List, Option, Some, None, All, IfOk, OnOk, length, map, slice_get, slice_set, if◌then◌else◌};
 ghost use Rattle.std.specs.HashMap as map;
 ghost use Rattle.slot_arena.specs.Slots.{value_at};
 ghost use Rattle.slot_arena.specs.declared.slot.Slot as declared;
@@ -132,14 +132,34 @@ fn keep(
         kept) }
 {
     match view.module(slot) {
-        Some(module) => {
-            let key = ModuleKey::of(alloc, &module)?;
-            match table.get(&key) {
-                Some(place) => Ok(take_like(shown, left, *place, &module)),
-                None => Ok(None),
-            }
-        }
+        Some(module) => keep_module(alloc, shown, table, left, &module),
         None => Ok(None),
+    }
+}
+
+fn keep_module(
+    alloc: Global,
+    shown: &View<'_>,
+    table: &HashMap<ModuleKey, usize>,
+    left: &mut Vec<Option<Slot>>,
+    module: &ModuleView<'_>,
+) -> Result<Option<Slot>, Memory>
+    ensures { IfOk result (λ kept. Keeps shown.now (map.get is_module table.now) (Some module.now) left.old.items
+        left.new.items kept) }
+{
+    let key = ModuleKey::of(alloc, module)?;
+    match place_in(table, &key) {
+        Some(place) => Ok(take_like(shown, left, place, module)),
+        None => Ok(None),
+    }
+}
+
+fn place_in(table: &HashMap<ModuleKey, usize>, key: &ModuleKey) -> Option<usize>
+    ensures { result ≡ map.get is_module table.now key.now }
+{
+    match table.get(key) {
+        Some(place) => Some(*place),
+        None => None,
     }
 }
 
@@ -176,12 +196,22 @@ pub(crate) fn somes_of(alloc: Global, left: &[Option<Slot>]) -> Result<Vec<Slot>
     let mut gone = Vec::new(alloc);
     let mut rest = left;
     while let Some((slot, more)) = rest.split_first() {
-        if let Some(slot) = *slot {
-            gone.push(slot)?;
-        }
+        push_some(&mut gone, *slot)?;
         rest = more;
     }
     Ok(gone)
+}
+
+fn push_some(gone: &mut Vec<Slot>, slot: Option<Slot>) -> Result<(), Memory>
+    ensures { OnOk result (gone.new.items ≡ gone.old.items ++ somes (slot ∷ [])) }
+{
+    match slot {
+        Some(slot) => {
+            gone.push(slot)?;
+            Ok(())
+        }
+        None => Ok(()),
+    }
 }
 
 /// At how many places none is kept.
@@ -191,10 +221,17 @@ pub(crate) fn missing_in(keeps: &[Option<Slot>]) -> usize
     let mut count = 0;
     let mut rest = keeps;
     while let Some((keep, more)) = rest.split_first() {
-        if keep.is_none() {
-            count += 1;
-        }
+        count += one_if_none(*keep);
         rest = more;
     }
     count
+}
+
+fn one_if_none(keep: Option<Slot>) -> usize
+    ensures { result ≡ missing (keep ∷ []) }
+{
+    match keep {
+        Some(_) => 0,
+        None => 1,
+    }
 }

@@ -1,4 +1,4 @@
-ghost use Rattle.std.specs.Prelude.{◌≡◌, ◌≤◌, ◌∷◌, [], IfOk, OnOk, List, Option, length, reverse, slice_get, Some};
+ghost use Rattle.std.specs.Prelude.{◌≡◌, ◌<◌, ◌≤◌, ◌∷◌, [], IfOk, OnOk, List, Option, length, reverse, slice_get, Some};
 ghost use Rattle.slot_arena.specs.Slots.{value_at};
 ghost use Rattle.slot_arena.specs.declared.slot.Slot as declared;
 ghost use Rattle.trace_graph.specs.Links.{IsLive};

@@ -1,10 +1,19 @@
 ghost use Rattle.std.specs.Prelude.{◌≡◌, ◌≤◌, ◌∷◌, [], List, ℕ, length, vec_len, vec_capacity};
 ghost use Rattle.trace_graph.specs.Links.{Links};
 ghost use Rattle.graph_repair.specs.Matching.{missing, filled};
-ghost use Rattle.graph_repair.specs.Plans.{IsNext, IsReady, IsRepaired, shown};
+ghost use Rattle.graph_repair.specs.Plans.{IsNext, IsReady, IsRepaired, base, shown};
 
 use crate::parts::Parts;
 use module_graph::{Graph, Slot};
+
+/// Puts a graph that is begun, if there is one, in the place of another.
+pub(crate) fn begin_anew(graph: &mut Graph, begun: Option<Graph>)
+    ensures { graph.new ≡ base graph.old begun }
+{
+    if let Some(new) = begun {
+        *graph = new;
+    }
+}
 
 /// Makes a graph the copy of a trace for which these parts are, and gives its slots in trace order.
 pub(crate) fn repair(graph: &mut Graph, parts: Parts) -> Vec<Slot>

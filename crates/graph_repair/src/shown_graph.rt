@@ -9,7 +9,7 @@ ghost use Rattle.graph_repair.specs.Repairs.{Repairs, ShowsSame};
 use crate::matching::find_kept;
 use crate::parts::Plan;
 use crate::planning::plan_of;
-use crate::repair::repair;
+use crate::repair::{begin_anew, repair};
 use module_graph::{Graph, Slot, View};
 use shared_types::Memory;
 use std::alloc::Global;
@@ -80,9 +80,7 @@ impl ShownGraph {
         ensures { (made : ℕ) (l : Links) → IsPlanned made self.old l plan → Repairs made self.old l self.new }
     {
         let Plan { begun, parts } = plan;
-        if let Some(graph) = begun {
-            self.graph = graph;
-        }
+        begin_anew(&mut self.graph, begun);
         self.slots = repair(&mut self.graph, parts);
     }
 }
