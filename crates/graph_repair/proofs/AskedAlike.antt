@@ -29,7 +29,7 @@ pub asked_is : (m : Module) (i : ℕ) → asked_at m i ≡ slice_get (texts m) i
 asked_is m i = asked_as (slice_get m.requests.value i) ∙ sym (slice_get-map (λ (r : Request). r.text) m.requests.value i)
 
 pub not_alike : (own other : Module) (i : ℕ) (r : Bool) → IsTrue r ↔ (asked_at own i ≡ asked_at other i) → r ≡ false → IsTrue false ↔ (texts own ≡ texts other)
-not_alike own other i r asks no = (
+not_alike own other i r asks unlike = (
   λ yes. (let bad : false ≡ true = yes in cc),
-  λ same. subst IsTrue no (asks.1 (asked_is own i ∙ (ap (λ xs. slice_get xs i) same ∙ sym (asked_is other i)))),
+  λ same. subst IsTrue unlike (asks.1 (asked_is own i ∙ (ap (λ xs. slice_get xs i) same ∙ sym (asked_is other i)))),
 )

@@ -141,7 +141,7 @@ module _ (g : Places) (slots : List Slot) (other : Places) (find : Module → Op
 
   none_more : ((v : Vertex) (place : ℕ) (s : Slot) → value_at other t ≡ Some v → find (module_of v) ≡ Some place → slice_get left place ≡ Some (Some s) → IsAlike (value_at g s) (value_at other t) → ⊥)
       → IsFound g slots other (t ∷ rest) left (None ∷ keeps)
-  none_more no = record {
+  none_more unlike = record {
     kept = found.kept;
     live = found.live;
     apart = found.apart;
@@ -162,7 +162,7 @@ module _ (g : Places) (slots : List Slot) (other : Places) (find : Module → Op
       not_here once other_once i s at zero u there is =
           let here : IsAlike (value_at g s) (value_at other t) = subst (λ x. IsAlike (value_at g s) (value_at other x)) (same_slot u there) is in
           let front = at_front once other_once i s at here in
-          absurd (no front.v i s front.there front.place front.is_left here)
+          absurd (unlike front.v i s front.there front.place front.is_left here)
       not_here once other_once i s at (suc j) u there is =
           found.found once (once_behind (module_in (value_at other t)) (names other rest) other_once) i j s u at there is
 
@@ -213,7 +213,7 @@ module _ (g : Places) (slots : List Slot) (other : Places) (find : Module → Op
           ]
 
   pub found_more : (after : List (Option Slot)) (keep : Option Slot) → Keeps g find (value_at other t) left after keep → IsFound g slots other (t ∷ rest) after (keep ∷ keeps)
-  found_more after None (is, no) = subst (λ ls. IsFound g slots other (t ∷ rest) ls (None ∷ keeps)) (sym is) (none_more no)
+  found_more after None (is, unlike) = subst (λ ls. IsFound g slots other (t ∷ rest) ls (None ∷ keeps)) (sym is) (none_more unlike)
   found_more after (Some k) (v, place, w_is, found_at, (was, is, like)) =
       subst (λ ls. IsFound g slots other (t ∷ rest) ls (Some k ∷ keeps)) (sym is) (some_more k v place w_is found_at was like)
 

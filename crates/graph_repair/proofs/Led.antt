@@ -23,7 +23,9 @@ pub next_lead : (f : Option Slot → ℕ) (targets : List (Option Slot)) (i : �
     → map f (take (i + 1) targets) ≡ map f (take i targets) ++ f (set_one (slice_get targets i)) ∷ []
 next_lead f [] i below = absurd (omega (arith, below))
 next_lead f (t ∷ targets) zero below = refl
-next_lead f (t ∷ targets) (suc i) below = ap (λ ls. f t ∷ ls) (next_lead f targets i (omega (arith, below)))
+next_lead f (t ∷ targets) (suc i) below =
+    let next : suc i + 1 ≡ suc (i + 1) = omega arith in
+    ap (λ n. map f (take n (t ∷ targets))) next ∙ ap (λ ls. f t ∷ ls) (next_lead f targets i (omega (arith, below)))
 
 -- ---- indexes
 

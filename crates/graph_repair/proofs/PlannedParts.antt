@@ -133,7 +133,7 @@ nothing_found g other slots keeps is =
       stays = subst (All (λ s. All (λ t. t ≢ s) [])) (sym none) (All-nil (λ s. All (λ t. t ≢ s) []));
       left_apart = tt;
       left_live = All-nil (IsLive g);
-      counts = ap length none;
+      counts = (let many = ap length none in omega (arith, many));
       found = λ once other_once i j s t at. absurd (let bad : None ≡ Some s = at in cc);
       tracked = λ i s at. absurd (let bad : None ≡ Some s = at in cc);
     }

@@ -10,9 +10,9 @@ loop-slot-init c = λ bound least all. all
 
 pub loop-slot-preserved : goal.loop-slot-preserved
 loop-slot-preserved c = λ bound least all.
-    c.loop-slot.invariant bound (let more = c.above.ensures.no_less in omega (arith, more, least))
+    c.loop-slot.invariant bound (let more = c.above-most.ensures.no_less in omega (arith, more, least))
     (subst (All (λ (s : Slot). s.index < bound)) (sym c.in-Some.ensures.cases.0)
-    (All-cons (λ (s : Slot). s.index < bound) c.in-Some.slot.now c.in-Some.more.now (let here = c.above.ensures.above in omega (arith, here, least)) all))
+    (All-cons (λ (s : Slot). s.index < bound) c.in-Some.slot.now c.in-Some.more.now (let here = c.above-most.ensures.above in omega (arith, here, least)) all))
 
 pub returns : goal.returns
 returns c =
