@@ -4,7 +4,7 @@
 --     none_left                     there is no place any more
 use Rattle.std.proofs.Common.{◌≡◌, ◌≤◌, ◌+◌, ◌++◌, List, [], ◌∷◌, length, Option, Some, None, refl, sym, ap, ◌∙◌, arith, append-nil, append_assoc}
 use Rattle.slot_arena.specs.declared.slot.Slot.{Slot}
-use Rattle.graph_repair.specs.Matching.{missing, filled}
+use Rattle.graph_repair.specs.Matching.{somes, missing, filled}
 use Rattle.graph_repair.specs.Plans.{IsNext}
 
 pub next_filled : (keep : Option Slot) (more : List (Option Slot)) (left others : List Slot) (s : Slot) → IsNext keep left s others
@@ -33,3 +33,24 @@ filled_more slots after left others all keep more s next is before =
 pub none_left : (slots left all : List Slot) (rest : List (Option Slot)) → length rest ≡ 0 → slots ++ filled rest left ≡ all → slots ≡ all
 none_left slots left all [] none before = sym (append-nil slots) ∙ before
 none_left slots left all (keep ∷ rest) none before = absurd (omega (arith, none))
+
+pub missing_front : (keep : Option Slot) (more : List (Option Slot)) → missing (keep ∷ more) ≡ missing (keep ∷ []) + missing more
+missing_front (Some k) more = omega arith
+missing_front None more = omega arith
+
+pub none_missing : (rest : List (Option Slot)) → length rest ≡ 0 → missing rest ≡ 0
+none_missing [] none = refl
+none_missing (keep ∷ rest) none = absurd (omega (arith, none))
+
+pub missing_few : (keeps : List (Option Slot)) → missing keeps ≤ length keeps
+missing_few [] = omega arith
+missing_few (Some k ∷ keeps) = let rest = missing_few keeps in omega (arith, rest)
+missing_few (None ∷ keeps) = let rest = missing_few keeps in omega (arith, rest)
+
+pub somes_front : (keep : Option Slot) (more : List (Option Slot)) → somes (keep ∷ more) ≡ somes (keep ∷ []) ++ somes more
+somes_front (Some k) more = refl
+somes_front None more = refl
+
+pub no_somes_left : (rest : List (Option Slot)) → length rest ≡ 0 → somes rest ≡ []
+no_somes_left [] none = refl
+no_somes_left (keep ∷ rest) none = absurd (omega (arith, none))

@@ -11,17 +11,22 @@ use Rattle.slot_arena.specs.Slots.{Place, value_at}
 use Rattle.slot_arena.specs.declared.slot.Slot.{Slot}
 use Rattle.slot_arena.proofs.Times.{below_or_not}
 use Rattle.module_graph.specs.declared.module.Module as vertex
+use Rattle.module_graph.specs.Modules.{set_one}
 use Rattle.module_graph.specs.Many.{AreApart}
 use Rattle.trace_spec.specs.Modules.{Module}
 use Rattle.trace_graph.specs.Links.{IsLive, module_of, module_in}
 use Rattle.graph_repair.specs.Matching.{AreOnce, somes, IsSame, IsAlike, AreKept}
-use Rattle.graph_repair.specs.Finding.{names, AreByKey, Keeps, HasLike, IsFound}
+use Rattle.graph_repair.specs.Finding.{names, AreByKey, Takes, Keeps, HasLike, IsFound}
 
 abbrev Vertex : Type 0
 Vertex = vertex.Module
 
 abbrev Places : Type 0
 Places = List (Place Vertex)
+
+pub set_some : (o : Option (Option Slot)) (k : Slot) → set_one o ≡ Some k → o ≡ Some (Some k)
+set_some None k is = absurd (let bad : None ≡ Some k = is in cc)
+set_some (Some o) k is = ap Some is
 
 -- ---- what is left where one is taken out
 
@@ -247,3 +252,21 @@ found_at g slots other find by theirs p q t left after keeps pushed keep at next
     subst (λ rest. IsFound g slots other rest after (reverse pushed)) (sym (drop_at theirs p t at))
     (subst (λ ks. IsFound g slots other (t ∷ drop (p + 1) theirs) after ks) (sym (ap reverse is ∙ reverse-append keeps (keep ∷ [])))
     (found_more g slots other find by t (drop (p + 1) theirs) left (reverse keeps) (subst (λ n. IsFound g slots other (drop n theirs) left (reverse keeps)) next found) after keep kept))
+
+-- ---- what is taken out, by the table
+
+pub keeps_by : (g : Places) (find : Module → Option ℕ) (v : Vertex) (place : ℕ) (left after : List (Option Slot)) (keep : Option Slot) → find (module_of v) ≡ Some place
+    → Takes g place (Some v) left after keep → Keeps g find (Some v) left after keep
+keeps_by g find v place left after (Some k) at takes = (v, place, refl, at, takes)
+keeps_by g find v place left after None at (is, unlike) = (is, λ w p s same here was like.
+    (let both : Some v ≡ Some w = same in
+        let one : v ≡ w = cc in
+        let places : Some place ≡ Some p = sym at ∙ (ap (λ x. find (module_of x)) one ∙ here) in
+        let there : p ≡ place = cc in
+        unlike s (ap (slice_get left) (sym there) ∙ was) like))
+
+pub keeps_none : (g : Places) (find : Module → Option ℕ) (v : Vertex) (left : List (Option Slot)) → find (module_of v) ≡ None → Keeps g find (Some v) left left None
+keeps_none g find v left none = (refl, λ w p s same here.
+    (let both : Some v ≡ Some w = same in
+        let one : v ≡ w = cc in
+        absurd (let bad : None ≡ Some p = sym none ∙ (ap (λ x. find (module_of x)) one ∙ here) in cc)))

@@ -29,7 +29,7 @@ next_lead f (t ∷ targets) (suc i) below =
 
 -- ---- indexes
 
-at_place : (slots : List Slot) (i : ℕ) (s : Slot) (P : Slot → Type 0) → slice_get slots i ≡ Some s → All P slots → P s
+pub at_place : (slots : List Slot) (i : ℕ) (s : Slot) (P : Slot → Type 0) → slice_get slots i ≡ Some s → All P slots → P s
 at_place slots i s P at all = subst P (get_or_from_slice_get slots i s s at) (all i s (slice_get_within slots i s at))
 
 apart_at : (slots : List Slot) → AreApart slots → (i j : ℕ) (s : Slot) → slice_get slots i ≡ Some s → slice_get slots j ≡ Some s → i ≡ j

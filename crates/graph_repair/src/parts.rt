@@ -1,7 +1,8 @@
 ghost use Rattle.std.specs.Prelude.{◌≡◌, ◌<◌, ◌≤◌, ◌∷◌, [], IfOk, OnOk, List, Option, length, reverse, slice_get, Some};
 ghost use Rattle.slot_arena.specs.Slots.{value_at};
 ghost use Rattle.slot_arena.specs.declared.slot.Slot as declared;
-ghost use Rattle.trace_graph.specs.Links.{IsLive};
+ghost use Rattle.module_graph.specs.Graphs.{AreModules};
+ghost use Rattle.trace_graph.specs.Links.{IsLinked, IsLive};
 ghost use Rattle.graph_repair.specs.Plans.{AreAdded, AddsOne, HasRoom};
 ghost use Rattle.graph_repair.specs.Leads.{AreInTheirPlaces};
 
@@ -45,7 +46,11 @@ pub(crate) fn parts_of(
         (reverse parts.added.items)) }
     ensures leads { IfOk result (λ parts. AreInTheirPlaces trace.now parts.leads.items) }
     ensures room { IfOk result HasRoom }
+    ensures modules { AreModules trace.now.graph }
+    ensures linked { IsLinked trace.now }
 {
+    // What is known of a graph is known where it is looked at.
+    let _view = trace.view();
     let added = added_of(alloc, &keeps, trace)?;
     let leads = leads_of(alloc, trace)?;
     let given = Vec::with_capacity(alloc, added.len())?;

@@ -27,6 +27,8 @@ pub(crate) fn plan_of(
     trace: &TraceGraph,
 ) -> Result<Plan, Memory>
     requires few { length trace.now.slots ≤ limit_number Modules }
+    requires modules { AreModules graph.old }
+    requires each { length found.keeps.items ≡ length trace.now.slots }
     ensures same { (slots : List declared.Slot) → ShowsSame (shown graph.old slots) (shown graph.new slots) }
     ensures planned { IfOk result (λ plan. (slots : List declared.Slot)
         → IsFound graph.old slots trace.now.graph trace.now.slots found.left.items found.keeps.items

@@ -1,10 +1,17 @@
+use Rattle.std.proofs.Common.{◌≡◌, ◌<◌, length, ap, sym, ◌∙◌, arith}
+use Rattle.graph_repair.specs.Matching.{missing}
+use Rattle.graph_repair.proofs.Filling.{missing_front, none_missing}
 use Rattle.graph_repair.proofs.matching.missing_in.Goals as goal
 
 pub overflow_add-count : goal.overflow_add-count
 overflow_add-count c = ?
 
 pub loop-keep-preserved : goal.loop-keep-preserved
-loop-keep-preserved c = ?
+loop-keep-preserved c =
+    let is = ap missing c.in-Some.ensures.cases.0 in
+    let front = missing_front c.in-Some.keep.now c.in-Some.more.now in
+    let before = c.loop-keep.invariant in
+    let one = c.one_if_none-count.ensures in omega (arith, is, front, before, one)
 
 pub returns : goal.returns
-returns c = ?
+returns c = let none = none_missing c.loop-keep.rest.now c.in_default.ensures.cases in let before = c.loop-keep.invariant in omega (arith, none, before)
