@@ -149,3 +149,6 @@ adds_untied other s m of more after there untied is keeps slots all =
 
 pub none_added : (other : Places) (keeps : List (Option Slot)) (theirs : List Slot) (n : ℕ) → length keeps ≤ n → AreAdded other (drop n keeps) (drop n theirs) []
 none_added other keeps theirs n past = subst (λ ks. AreAdded other ks (drop n theirs) []) (sym (drop_all n keeps past)) tt
+
+pub adds_kept : (other : Places) (keep : Option Slot) (k : Slot) (s : Slot) (more : List Vertex) → keep ≡ Some k → AddsOne other keep s more more
+adds_kept other keep k s more is keeps slots all = subst (λ o. AreAdded other (o ∷ keeps) (s ∷ slots) more) (sym is) all

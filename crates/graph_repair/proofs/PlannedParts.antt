@@ -3,13 +3,13 @@
 --     ready_of                         the parts are ready
 --     nothing_found                    what is found in a new graph
 --     repairs_by                       a repair by a plan
-use Rattle.std.proofs.Common.{◌≡◌, ◌≢◌, ◌≤◌, ◌<◌, ◌+◌, ◌++◌, ℕ, zero, suc, List, [], ◌∷◌, length, map, reverse, replicate, Option, Some, None, refl, sym, ap, ◌∙◌, subst, arith, inl, inr}
+use Rattle.std.proofs.Common.{◌≡◌, ◌≢◌, ◌≤◌, ◌<◌, ◌+◌, ◌++◌, ℕ, zero, suc, List, [], ◌∷◌, length, map, reverse, replicate, take, Option, Some, None, Result, Ok, Err, IfOk, refl, sym, ap, ◌∙◌, subst, arith, inl, inr}
 use Rattle.std.specs.Prelude.{All, slice_get, flat_map}
 use Rattle.std.proofs.lemmas.List.{length-map, length-reverse, reverse-reverse}
 use Rattle.std.proofs.lemmas.List.Elements.{All-nil, All-weaker}
 use Rattle.slot_arena.specs.Slots.{Place, value_at, IsGiven, with_places}
 use Rattle.slot_arena.proofs.SlotLaws.{each_grows}
-use Rattle.slot_arena.specs.Counts.{spare, live}
+use Rattle.slot_arena.specs.Counts.{spare, live, wanted}
 use Rattle.slot_arena.specs.declared.slot.Slot.{Slot}
 use Rattle.module_graph.specs.declared.module.Module as vertex
 use Rattle.module_graph.specs.Graphs.{AreModules}
@@ -26,6 +26,8 @@ use Rattle.graph_repair.specs.Finding.{names, HasLike, IsFound}
 use Rattle.graph_repair.specs.Leads.{AreInTheirPlaces}
 use Rattle.graph_repair.specs.Repairs.{Repairs, Lasts, ShowsSame, led_by, most_made}
 use Rattle.graph_repair.specs.Plans.{AreAdded, HasRoom, IsReady, IsRepaired, IsBegun, IsPlanned, shown, base}
+use Rattle.module_graph.proofs.WellMade.{modules-grown}
+use Rattle.trace_graph.proofs.Linking.{spare_enough, none_live}
 use Rattle.graph_repair.proofs.Joining.{Joined, join_all, added_well, added_count, kept_count}
 
 abbrev Vertex : Type 0
@@ -214,3 +216,47 @@ planned_anew made h slots l left keeps plan found many begun = record {
   going = λ is. absurd (let bad : None ≡ Some begun.graph = sym is ∙ begun.begun in cc);
   ready = subst (λ b. IsReady (base h b) l plan.parts) (sym begun.begun) begun.ready;
 }
+
+-- ---- a new graph
+
+no_modules : AreModules []
+no_modules zero m is = absurd (let bad : None ≡ Some m = is in cc)
+no_modules (suc i) m is = absurd (let bad : None ≡ Some m = is in cc)
+
+all_missing : (n : ℕ) → missing (replicate n None) ≡ n
+all_missing zero = refl
+all_missing (suc n) = let rest = all_missing n in omega (arith, rest)
+
+none_taken : {X : Type 0} (n : ℕ) → take n [] ≡ []
+none_taken zero = refl
+none_taken (suc n) = refl
+
+pub begun_so : (empty h : Places) (l : Links) (keeps : List (Option Slot)) (gone : List Slot) (parts : Parts) → empty ≡ [] → h ≡ with_places empty (wanted (spare empty) (length l.slots))
+    → keeps ≡ replicate (length l.slots) None → gone ≡ [] → parts.gone.items ≡ gone → parts.keeps.items ≡ keeps → AreModules l.graph
+    → AreAdded l.graph keeps l.slots (reverse parts.added.items) → AreInTheirPlaces l parts.leads.items → HasRoom parts → IsReady h l parts
+begun_so empty h l keeps gone parts none grown all_none gone_none gone_is keeps_are theirs added leads room =
+    let keeps_so : parts.keeps.items ≡ replicate (length l.slots) None = keeps_are ∙ all_none in
+    let count = ap missing keeps_so in
+    let many = all_missing (length l.slots) in
+    let enough = spare_enough empty h (length l.slots) grown in
+    ready_of h [] l [] parts (nothing_found h l.graph l.slots parts.keeps.items keeps_so) (none_live empty h (wanted (spare empty) (length l.slots)) none grown)
+    (subst AreModules (sym grown) (modules-grown empty (wanted (spare empty) (length l.slots)) (subst AreModules (sym none) no_modules))) theirs (gone_is ∙ gone_none)
+    (subst (λ ks. AreAdded l.graph ks l.slots (reverse parts.added.items)) (sym keeps_are) added) leads room (omega (arith, count, many, enough))
+
+-- ---- the graph that goes on
+
+pub going_on : (g h : Places) (slots : List Slot) (l : Links) (left : List (Option Slot)) (gone : List Slot) (keeps : List (Option Slot)) (n : ℕ) (plan : Plan)
+    → h ≡ with_places g (wanted (spare g) n) → n ≡ missing keeps → length g + n < most_made → plan.begun ≡ None → plan.parts.keeps.items ≡ keeps → plan.parts.gone.items ≡ gone → gone ≡ somes left
+    → AreModules g → AreModules l.graph → AreAdded l.graph keeps l.slots (reverse plan.parts.added.items) → AreInTheirPlaces l plan.parts.leads.items → HasRoom plan.parts
+    → IsFound g slots l.graph l.slots left keeps → live g ≡ length slots → IsPlanned (length g) (shown h slots) l plan
+going_on g h slots l left gone keeps n plan grown count few none keeps_are gone_is gone_so own theirs added leads room found alone =
+    let same = shows_grown g h (wanted (spare g) n) slots grown in
+    let enough = spare_enough g h n grown in
+    let kept = ap missing keeps_are in
+    planned_on (length g) g h slots l left plan same.values same.as_many (subst (IsFound g slots l.graph l.slots left) (sym keeps_are) found) alone none (omega (arith, kept, few, count))
+    (λ there many. ready_of h slots l left plan.parts there many (subst AreModules (sym grown) (modules-grown g (wanted (spare g) n) own)) theirs (gone_is ∙ gone_so)
+        (subst (λ ks. AreAdded l.graph ks l.slots (reverse plan.parts.added.items)) (sym keeps_are) added) leads room (omega (arith, kept, count, enough)))
+
+pub if_ok : {X E : Type 0} (r : Result X E) (P Q : X → Type 0) → IfOk r P → ((x : X) → P x → Q x) → IfOk r Q
+if_ok (Ok x) P Q is next = next x is
+if_ok (Err e) P Q is next = tt

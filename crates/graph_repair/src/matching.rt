@@ -1,5 +1,7 @@
-ghost use Rattle.std.specs.Prelude.{◌≡◌, ◌<◌, ◌++◌, ◌∷◌, [], ℕ, List, Option, Some, None, All, IfOk, OnOk, length, map, slice_get, slice_set, if◌then◌else◌};
+ghost use Rattle.std.specs.Prelude.{◌≡◌, ◌<◌, ◌≤◌, ◌++◌, ◌∷◌, [], ℕ, List, Option, Some, None, All, IfOk, OnOk, length, map, slice_get, slice_set, if◌then◌else◌};
 ghost use Rattle.std.specs.HashMap as map;
+ghost use Rattle.tree_spec.specs.declared.LimitName.TheVariants.{Modules};
+ghost use Rattle.tree_spec.specs.Limits.{limit_number};
 ghost use Rattle.slot_arena.specs.Slots.{value_at};
 ghost use Rattle.slot_arena.specs.declared.slot.Slot as declared;
 ghost use Rattle.module_graph.specs.declared.module.Module as vertex;
@@ -216,6 +218,7 @@ fn push_some(gone: &mut Vec<Slot>, slot: Option<Slot>) -> Result<(), Memory>
 
 /// At how many places none is kept.
 pub(crate) fn missing_in(keeps: &[Option<Slot>]) -> usize
+    requires { length keeps.now ≤ limit_number Modules }
     ensures { result ≡ missing keeps.now }
 {
     let mut count = 0;

@@ -11,7 +11,7 @@ set_place-requires c =
 
 pub loop-place-init : goal.loop-place-init
 loop-place-init c = record {
-  within = (let many : length c.resize.new.self.items ≡ c.most_index.result = ? in subst (λ n. All (λ (s : Slot). s.index < n) c.args.slots.now) (sym many) c.most_index.ensures);
+  within = (let many : length c.resize.new.self.items ≡ c.most_index.result = (let len = c.in_ok-resize.ensures.len in let kept = c.resize.new.self.ok.0 in omega (arith, len, kept)) in subst (λ n. All (λ (s : Slot). s.index < n) c.args.slots.now) (sym many) c.most_index.ensures);
   placed = λ own i t below at. absurd (omega (arith, below));
 }
 
