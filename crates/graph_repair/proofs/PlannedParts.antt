@@ -3,7 +3,7 @@
 --     ready_of                         the parts are ready
 --     nothing_found                    what is found in a new graph
 --     repairs_by                       a repair by a plan
-use Rattle.std.proofs.Common.{◌≡◌, ◌≢◌, ◌≤◌, ◌<◌, ◌+◌, ◌++◌, ℕ, zero, suc, List, [], ◌∷◌, length, map, reverse, replicate, take, Option, Some, None, Result, Ok, Err, IfOk, refl, sym, ap, ◌∙◌, subst, arith, inl, inr}
+use Rattle.std.proofs.Common.{◌≡◌, ◌≢◌, ◌≤◌, ◌<◌, ◌+◌, ◌-◌, ◌%◌, ◌++◌, ℕ, zero, suc, List, [], ◌∷◌, length, map, reverse, replicate, take, Option, Some, None, Result, Ok, Err, IfOk, refl, sym, ap, ◌∙◌, subst, arith, inl, inr}
 use Rattle.std.specs.Prelude.{All, slice_get, flat_map}
 use Rattle.std.proofs.lemmas.List.{length-map, length-reverse, reverse-reverse}
 use Rattle.std.proofs.lemmas.List.Elements.{All-nil, All-weaker}
@@ -27,7 +27,7 @@ use Rattle.graph_repair.specs.Leads.{AreInTheirPlaces}
 use Rattle.graph_repair.specs.Repairs.{Repairs, Lasts, ShowsSame, led_by, most_made}
 use Rattle.graph_repair.specs.Plans.{AreAdded, HasRoom, IsReady, IsRepaired, IsBegun, IsPlanned, shown, base}
 use Rattle.module_graph.proofs.WellMade.{modules-grown}
-use Rattle.trace_graph.proofs.Linking.{spare_enough, none_live}
+use native.Mathlib.Nat.{div-add-mod', mod-lt}
 use Rattle.graph_repair.proofs.Joining.{Joined, join_all, added_well, added_count, kept_count}
 
 abbrev Vertex : Type 0
@@ -231,6 +231,21 @@ none_taken : {X : Type 0} (n : ℕ) → take n [] ≡ []
 none_taken zero = refl
 none_taken (suc n) = refl
 
+wanted_enough : (have n : ℕ) → n ≤ have + wanted have n
+wanted_enough have n =
+    let r : (n - have + 63) % 64 < 64 = mod-lt (n - have + 63) (omega arith) in
+    omega (arith, div-add-mod' (n - have + 63) 64, r)
+
+spare_enough : (empty graph : Places) (n : ℕ) → graph ≡ with_places empty (wanted (spare empty) n) → n ≤ spare graph
+spare_enough empty graph n is =
+    let more = (each_grows Vertex empty (wanted (spare empty) n)).more_spare in
+    let same = ap spare is in
+    let enough = wanted_enough (spare empty) n in
+    omega (arith, more, same, enough)
+
+none_live : (empty graph : Places) (n : ℕ) → empty ≡ [] → graph ≡ with_places empty n → live graph ≡ 0
+none_live empty graph n none is = ap live is ∙ ((each_grows Vertex empty n).as_live ∙ ap live none)
+
 pub begun_so : (empty h : Places) (l : Links) (keeps : List (Option Slot)) (gone : List Slot) (parts : Parts) → empty ≡ [] → h ≡ with_places empty (wanted (spare empty) (length l.slots))
     → keeps ≡ replicate (length l.slots) None → gone ≡ [] → parts.gone.items ≡ gone → parts.keeps.items ≡ keeps → AreModules l.graph
     → AreAdded l.graph keeps l.slots (reverse parts.added.items) → AreInTheirPlaces l parts.leads.items → HasRoom parts → IsReady h l parts
@@ -260,3 +275,10 @@ going_on g h slots l left gone keeps n plan grown count few none keeps_are gone_
 pub if_ok : {X E : Type 0} (r : Result X E) (P Q : X → Type 0) → IfOk r P → ((x : X) → P x → Q x) → IfOk r Q
 if_ok (Ok x) P Q is next = next x is
 if_ok (Err e) P Q is next = tt
+
+pub resized : (n m k : ℕ) (old new : List (Option Slot)) → new ≡ take n old ++ replicate (n - k) None → old ≡ [] → k ≡ 0 → n ≡ m → new ≡ replicate m None
+resized n m k old new is none nothing same =
+    let count : n - k ≡ m = omega (arith, nothing, same) in
+    is
+    ∙ (ap (λ xs. take n xs ++ replicate (n - k) None) none
+    ∙ (ap (λ xs. xs ++ replicate (n - k) None) (none_taken n) ∙ ap (λ j. replicate j None) count))
