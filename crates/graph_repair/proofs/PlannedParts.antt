@@ -227,9 +227,10 @@ all_missing : (n : ℕ) → missing (replicate n None) ≡ n
 all_missing zero = refl
 all_missing (suc n) = let rest = all_missing n in omega (arith, rest)
 
-none_taken : {X : Type 0} (n : ℕ) → take n [] ≡ []
-none_taken zero = refl
-none_taken (suc n) = refl
+none_taken : (n : ℕ) (xs : List (Option Slot)) → xs ≡ [] → take n xs ≡ []
+none_taken zero xs none = refl
+none_taken (suc n) [] none = refl
+none_taken (suc n) (x ∷ xs) none = absurd (cc)
 
 wanted_enough : (have n : ℕ) → n ≤ have + wanted have n
 wanted_enough have n =
@@ -280,5 +281,4 @@ pub resized : (n m k : ℕ) (old new : List (Option Slot)) → new ≡ take n ol
 resized n m k old new is none nothing same =
     let count : n - k ≡ m = omega (arith, nothing, same) in
     is
-    ∙ (ap (λ xs. take n xs ++ replicate (n - k) None) none
-    ∙ (ap (λ xs. xs ++ replicate (n - k) None) (none_taken n) ∙ ap (λ j. replicate j None) count))
+    ∙ (ap (λ xs. xs ++ replicate (n - k) None) (none_taken n old none) ∙ ap (λ j. replicate j None) count)

@@ -9,8 +9,8 @@ use Rattle.graph_repair.proofs.Filling.{missing_few}
 use Rattle.graph_repair.proofs.PlannedParts.{going_on, planned_anew, shows_grown, shows_itself, if_ok}
 use Rattle.graph_repair.proofs.planning.plan_of.Goals as goal
 
-pub missing_in-requires : goal.missing_in-requires
-missing_in-requires c =
+pub missing_in-added-requires : goal.missing_in-added-requires
+missing_in-added-requires c =
     let same = ap length c.deref.ensures.value in
     let each = c.requires.each in
     let few : length c.args.trace.now.slots ≤ 20000 = c.requires.few in omega (arith, same, each, few)
