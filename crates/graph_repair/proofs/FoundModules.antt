@@ -201,6 +201,7 @@ module _ (g : Places) (slots : List Slot) (other : Places) (find : Module → Op
           sym was ∙ (ap (slice_get left) (sym same) ∙ front.is_left)
       is_here once other_once i s at (suc j) u there like =
           found.found once (once_behind (module_in (value_at other t)) (names other rest) other_once) i j s u at there like
+
       is_tracked : (i : ℕ) (s : Slot) → slice_get slots i ≡ Some s → (slice_get (slice_set left place None) i ≡ Some (Some s)) ⊎ HasLike other (t ∷ rest) (value_at g s)
       is_tracked i s at =
           elim (found.tracked i s at) [
@@ -258,15 +259,21 @@ found_at g slots other find by theirs p q t left after keeps pushed keep at next
 pub keeps_by : (g : Places) (find : Module → Option ℕ) (v : Vertex) (place : ℕ) (left after : List (Option Slot)) (keep : Option Slot) → find (module_of v) ≡ Some place
     → Takes g place (Some v) left after keep → Keeps g find (Some v) left after keep
 keeps_by g find v place left after (Some k) at takes = (v, place, refl, at, takes)
-keeps_by g find v place left after None at (is, unlike) = (is, λ w p s same here was like.
-    (let both : Some v ≡ Some w = same in
-        let one : v ≡ w = cc in
-        let places : Some place ≡ Some p = sym at ∙ (ap (λ x. find (module_of x)) one ∙ here) in
-        let there : p ≡ place = cc in
-        unlike s (ap (slice_get left) (sym there) ∙ was) like))
+keeps_by g find v place left after None at (is, unlike) = (
+  is,
+  λ w p s same here was like.
+      (let both : Some v ≡ Some w = same in
+      let one : v ≡ w = cc in
+      let places : Some place ≡ Some p = sym at ∙ (ap (λ x. find (module_of x)) one ∙ here) in
+      let there : p ≡ place = cc in
+      unlike s (ap (slice_get left) (sym there) ∙ was) like),
+)
 
 pub keeps_none : (g : Places) (find : Module → Option ℕ) (v : Vertex) (left : List (Option Slot)) → find (module_of v) ≡ None → Keeps g find (Some v) left left None
-keeps_none g find v left none = (refl, λ w p s same here.
-    (let both : Some v ≡ Some w = same in
-        let one : v ≡ w = cc in
-        absurd (let bad : None ≡ Some p = sym none ∙ (ap (λ x. find (module_of x)) one ∙ here) in cc)))
+keeps_none g find v left none = (
+  refl,
+  λ w p s same here.
+      (let both : Some v ≡ Some w = same in
+      let one : v ≡ w = cc in
+      absurd (let bad : None ≡ Some p = sym none ∙ (ap (λ x. find (module_of x)) one ∙ here) in cc)),
+)

@@ -40,11 +40,11 @@ key_more g slots find after p s here alive puts before once i t w below at is =
     let v = live.0 in
     elim (below_or_not i p) [
       | inl lt ↦ puts live.0 live.1 (module_of w)
-      ∙ (other_key (module_of live.0) (module_of w) p (find (module_of w)) (is_module (module_of live.0) (module_of w)) refl
-      (λ same. (let one : i ≡ p =
+          ∙ (other_key (module_of live.0) (module_of w) p (find (module_of w)) (is_module (module_of live.0) (module_of w)) refl
+          (λ same. (let one : i ≡ p =
           once i p (module_of w) (name_at g slots i t at ∙ ap Some (ap module_in is)) (name_at g slots p s here ∙ (ap Some (ap module_in live.1) ∙ ap Some same)) in
           omega (arith, one, lt)))
-      ∙ before once i t w lt at is)
+          ∙ before once i t w lt at is)
       | inr past ↦ (let one : i ≡ p = omega (arith, below, past) in
           let both : Some t ≡ Some s = sym at ∙ (ap (slice_get slots) one ∙ here) in
           let slot : t ≡ s = cc in

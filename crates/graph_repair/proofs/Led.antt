@@ -61,8 +61,8 @@ pub set_more : (slots : List Slot) (places after : List ℕ) (p : ℕ) (s : Slot
 set_more slots places after p s here within is before own i t below at =
     elim (below_or_not i p) [
       | inl lt ↦ ap (λ ps. get_or ps t.index 0) is
-      ∙ (get_or-set_other places s.index t.index p 0 (λ same. (let one : i ≡ p = own i p t s at here same in omega (arith, one, lt)))
-      ∙ before own i t lt at)
+          ∙ (get_or-set_other places s.index t.index p 0 (λ same. (let one : i ≡ p = own i p t s at here same in omega (arith, one, lt)))
+          ∙ before own i t lt at)
       | inr past ↦ (let one : i ≡ p = omega (arith, below, past) in
           let two : Some t ≡ Some s = sym at ∙ (ap (slice_get slots) one ∙ here) in
           let slot : t ≡ s = cc in

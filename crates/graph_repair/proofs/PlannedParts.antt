@@ -151,13 +151,13 @@ repairs_by made old l plan new planned repaired = record {
   matching = planned.matching;
   lasts = λ few.
       (let none : plan.begun ≡ None = planned.renews.1 few in
-          let same : base old.graph plan.begun ≡ old.graph = ap (base old.graph) none in
-          record {
-            calls = subst (λ g. Calls g new.graph) same repaired.lasts.calls;
-            given = repaired.lasts.given;
-            slots = repaired.lasts.slots ∙ ap (λ ks. filled ks repaired.lasts.given) (planned.going none);
-            never = subst (λ g. All (λ s. IsGiven g s → ⊥) repaired.lasts.given) same repaired.lasts.never;
-          });
+      let same : base old.graph plan.begun ≡ old.graph = ap (base old.graph) none in
+      record {
+        calls = subst (λ g. Calls g new.graph) same repaired.lasts.calls;
+        given = repaired.lasts.given;
+        slots = repaired.lasts.slots ∙ ap (λ ks. filled ks repaired.lasts.given) (planned.going none);
+        never = subst (λ g. All (λ s. IsGiven g s → ⊥) repaired.lasts.given) same repaired.lasts.never;
+      });
 }
 
 -- ---- a graph that shows the same
@@ -271,7 +271,7 @@ going_on g h slots l left gone keeps n plan grown count few none keeps_are gone_
     let kept = ap missing keeps_are in
     planned_on (length g) g h slots l left plan same.values same.as_many (subst (IsFound g slots l.graph l.slots left) (sym keeps_are) found) alone none (omega (arith, kept, few, count))
     (λ there many. ready_of h slots l left plan.parts there many (subst AreModules (sym grown) (modules-grown g (wanted (spare g) n) own)) theirs (gone_is ∙ gone_so)
-        (subst (λ ks. AreAdded l.graph ks l.slots (reverse plan.parts.added.items)) (sym keeps_are) added) leads room (omega (arith, kept, count, enough)))
+    (subst (λ ks. AreAdded l.graph ks l.slots (reverse plan.parts.added.items)) (sym keeps_are) added) leads room (omega (arith, kept, count, enough)))
 
 pub if_ok : {X E : Type 0} (r : Result X E) (P Q : X → Type 0) → IfOk r P → ((x : X) → P x → Q x) → IfOk r Q
 if_ok (Ok x) P Q is next = next x is

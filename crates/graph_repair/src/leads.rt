@@ -23,7 +23,12 @@ pub(crate) fn leads_of(alloc: Global, trace: &TraceGraph) -> Result<Vec<usize>, 
 }
 
 // Puts the places to which the module under a slot leads behind the others.
-fn add_leads(view: &View<'_>, places: &Vec<usize>, slot: Slot, leads: &mut Vec<usize>) -> Result<(), Memory>
+fn add_leads(
+    view: &View<'_>,
+    places: &Vec<usize>,
+    slot: Slot,
+    leads: &mut Vec<usize>,
+) -> Result<(), Memory>
     ensures { OnOk result (leads.new.items ≡ leads.old.items
         ++ map (place_in places.now.items) (targets_under view.now slot)) }
 {
@@ -33,7 +38,11 @@ fn add_leads(view: &View<'_>, places: &Vec<usize>, slot: Slot, leads: &mut Vec<u
     }
 }
 
-fn add_targets(module: &ModuleView<'_>, places: &Vec<usize>, leads: &mut Vec<usize>) -> Result<(), Memory>
+fn add_targets(
+    module: &ModuleView<'_>,
+    places: &Vec<usize>,
+    leads: &mut Vec<usize>,
+) -> Result<(), Memory>
     ensures { OnOk result (leads.new.items ≡ leads.old.items
         ++ map (place_in places.now.items) module.now.targets) }
 {

@@ -98,11 +98,7 @@ fn put_key(
     }
 }
 
-fn insert(
-    table: &mut HashMap<ModuleKey, usize>,
-    key: ModuleKey,
-    place: usize,
-) -> Result<(), Memory>
+fn insert(table: &mut HashMap<ModuleKey, usize>, key: ModuleKey, place: usize) -> Result<(), Memory>
     ensures { OnOk result ((m : Module) → map.get is_module table.new m
         ≡ (if is_module key m then Some place else map.get is_module table.old m)) }
 {

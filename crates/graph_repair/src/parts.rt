@@ -66,7 +66,11 @@ pub(crate) fn parts_of(
 }
 
 // The modules at the places at which none is kept, the last one first.
-fn added_of(alloc: Global, keeps: &[Option<Slot>], trace: &TraceGraph) -> Result<Vec<Module>, Memory>
+fn added_of(
+    alloc: Global,
+    keeps: &[Option<Slot>],
+    trace: &TraceGraph,
+) -> Result<Vec<Module>, Memory>
     requires { length keeps.now ≡ length trace.now.slots }
     ensures { IfOk result (λ added. AreAdded trace.now.graph keeps.now trace.now.slots (reverse added.items)) }
 {

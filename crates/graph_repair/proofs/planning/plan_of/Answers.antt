@@ -42,7 +42,7 @@ returns-then-made-added-ge-MOST_MADE-clause-planned c =
     (λ (plan : Plan). (slots : List Slot) → IsFound c.args.graph.now slots c.args.trace.now.graph c.args.trace.now.slots c.args.found.left.items c.args.found.keeps.items → live c.args.graph.now ≡ length slots → IsPlanned (length c.args.graph.now) (shown c.args.graph.now slots) c.args.trace.now plan)
     c.begun.ensures
     (λ plan begun slots found alone.
-        planned_anew (length c.args.graph.now) c.args.graph.now slots c.args.trace.now c.args.found.left.items c.args.found.keeps.items plan found (λ below. omega (arith, many, made, count, below)) begun)
+    planned_anew (length c.args.graph.now) c.args.graph.now slots c.args.trace.now c.args.found.left.items c.args.found.keeps.items plan found (λ below. omega (arith, many, made, count, below)) begun)
 
 pub returns-in_err-reserve-clause-same : goal.returns-in_err-reserve-clause-same
 returns-in_err-reserve-clause-same c = λ slots. shows_grown c.args.graph.now c.reserve.new.self _ slots c.in_err-reserve.ensures.err.2

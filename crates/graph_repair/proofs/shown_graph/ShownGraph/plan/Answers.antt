@@ -38,7 +38,7 @@ returns-clause-same c =
 pub returns-clause-planned : goal.returns-clause-planned
 returns-clause-planned c =
     let found = subst (λ g. IsFound g c.self.inside.slots.items c.args.trace.now.graph c.args.trace.now.slots c.in_ok-found.found.left.items c.in_ok-found.found.keeps.items) c.view.ensures.graph
-        (subst (λ (slots : List Slot). IsFound c.view.result slots c.args.trace.now.graph c.args.trace.now.slots c.in_ok-found.found.left.items c.in_ok-found.found.keeps.items) c.deref.ensures.value c.in_ok-found.ensures) in
+    (subst (λ (slots : List Slot). IsFound c.view.result slots c.args.trace.now.graph c.args.trace.now.slots c.in_ok-found.found.left.items c.in_ok-found.found.keeps.items) c.deref.ensures.value c.in_ok-found.ensures) in
     if_ok c.plan_of.result
     (λ (plan : Plan). (slots : List Slot) → IsFound c.self.inside.graph slots c.args.trace.now.graph c.args.trace.now.slots c.in_ok-found.found.left.items c.in_ok-found.found.keeps.items → live c.self.inside.graph ≡ length slots → IsPlanned (length c.self.inside.graph) (shown c.plan_of.new.graph slots) c.args.trace.now plan)
     (IsPlanned (length c.args.self.now.graph) (shown c.plan_of.new.graph c.self.inside.slots.items) c.args.trace.now)
