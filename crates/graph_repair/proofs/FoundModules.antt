@@ -1,7 +1,7 @@
 -- One module more is found, or isn't.
 --     nothing_yet      before the last module
 --     found_more       a module in front of those that are found
-use Rattle.std.proofs.Common.{◌≡◌, ◌≢◌, ◌≤◌, ◌<◌, ◌+◌, ◌⊎◌, ◌++◌, ℕ, zero, suc, List, [], ◌∷◌, length, map, drop, reverse, Option, Some, None, option_map, refl, sym, ap, ◌∙◌, subst, inl, inr, arith}
+use Rattle.std.proofs.Common.{◌≡◌, ◌≢◌, ◌+◌, ◌⊎◌, ◌++◌, ℕ, zero, suc, List, [], ◌∷◌, length, map, drop, reverse, Option, Some, None, option_map, refl, sym, ap, ◌∙◌, subst, inl, inr, arith}
 use Rattle.std.specs.Prelude.{All, slice_get, slice_set}
 use Rattle.std.proofs.lemmas.List.{reverse-append}
 use Rattle.shared_types.proofs.ListSteps.{drop_at}
@@ -9,13 +9,12 @@ use Rattle.std.proofs.lemmas.List.Elements.{All-nil, All-cons, All-head, All-tai
 use Rattle.std.proofs.lemmas.Option.{slice_get-map}
 use Rattle.slot_arena.specs.Slots.{Place, value_at}
 use Rattle.slot_arena.specs.declared.slot.Slot.{Slot}
-use Rattle.slot_arena.proofs.Times.{below_or_not}
 use Rattle.module_graph.specs.declared.module.Module as vertex
 use Rattle.module_graph.specs.Modules.{set_one}
 use Rattle.module_graph.specs.Many.{AreApart}
 use Rattle.trace_spec.specs.Modules.{Module}
 use Rattle.trace_graph.specs.Links.{IsLive, module_of, module_in}
-use Rattle.graph_repair.specs.Matching.{AreOnce, somes, IsSame, IsAlike, AreKept}
+use Rattle.graph_repair.specs.Matching.{AreOnce, somes, IsSame, IsAlike}
 use Rattle.graph_repair.specs.Finding.{names, AreByKey, Takes, Keeps, HasLike, IsFound}
 
 abbrev Vertex : Type 0

@@ -1,7 +1,7 @@
 -- What is kept and what is added, joined in trace order.
 --     join_all       the modules at all places are those of the trace
 --     added_well, added_count, kept_count      how many they are, and that they are well made
-use Rattle.std.proofs.Common.{◌≡◌, ◌+◌, ◌++◌, ℕ, zero, suc, List, [], ◌∷◌, ◌≤◌, length, map, drop, reverse, Option, Some, None, refl, sym, ap, ◌∙◌, subst, arith, length-append}
+use Rattle.std.proofs.Common.{◌≡◌, ◌+◌, ◌++◌, ℕ, suc, List, [], ◌∷◌, ◌≤◌, length, map, drop, reverse, Option, Some, None, refl, sym, ap, ◌∙◌, subst, arith, length-append}
 use Rattle.std.specs.Prelude.{All, flat_map, slice_get}
 use Rattle.std.proofs.lemmas.List.{length-map, reverse-append, drop_all}
 use Rattle.shared_types.proofs.ListSteps.{drop_at}

@@ -3,20 +3,20 @@
 --     own_indexes         the slots of a trace have indexes of their own
 --     set_more            one place more in the table
 --     in_their_places     the table leads to the targets
-use Rattle.std.proofs.Common.{◌≡◌, ◌≢◌, ◌≤◌, ◌<◌, ◌+◌, ◌⊎◌, ◌++◌, ℕ, zero, suc, List, [], ◌∷◌, length, map, take, get_or, Option, Some, None, Contains, refl, sym, ap, ◌∙◌, subst, inl, inr, arith}
-use Rattle.std.specs.Prelude.{All, slice_get, slice_set, flat_map}
+use Rattle.std.proofs.Common.{◌≡◌, ◌≢◌, ◌<◌, ◌+◌, ◌++◌, ℕ, zero, suc, List, [], ◌∷◌, length, map, take, get_or, Option, Some, None, refl, sym, ap, ◌∙◌, subst, inl, inr, arith}
+use Rattle.std.specs.Prelude.{All, slice_get, slice_set}
 use Rattle.std.proofs.lemmas.List.{get_or-set_same, get_or-set_other}
 use Rattle.std.proofs.lemmas.List.Elements.{All-map, All-weaker, All-head, All-tail}
 use Rattle.std.proofs.lemmas.Option.{slice_get_within, slice_get-get_or, get_or_from_slice_get}
-use Rattle.slot_arena.specs.Slots.{Place, place, place_at, value_at}
+use Rattle.slot_arena.specs.Slots.{Place, place_at}
 use Rattle.slot_arena.specs.declared.slot.Slot.{Slot}
 use Rattle.slot_arena.proofs.Times.{below_or_not}
 use Rattle.module_graph.specs.declared.module.Module as vertex
 use Rattle.module_graph.specs.Modules.{set_one}
-use Rattle.module_graph.specs.Many.{AreApart, slot_in}
-use Rattle.trace_graph.specs.Links.{Links, IsLinked, IsLive, IsSet, targets_in, all_targets}
-use Rattle.trace_graph.proofs.Alone.{Stands, stands, live_listed}
-use Rattle.graph_repair.specs.Leads.{place_in, HasOwnIndexes, AreByPlace, targets_under, AreInTheirPlaces}
+use Rattle.module_graph.specs.Many.{AreApart}
+use Rattle.trace_graph.specs.Links.{Links, IsLinked, IsLive, IsSet, all_targets}
+use Rattle.trace_graph.proofs.Alone.{stands, live_listed}
+use Rattle.graph_repair.specs.Leads.{place_in, HasOwnIndexes, AreByPlace, AreInTheirPlaces}
 use Rattle.graph_repair.specs.Repairs.{led_by}
 
 pub next_lead : (f : Option Slot → ℕ) (targets : List (Option Slot)) (i : ℕ) → i < length targets

@@ -4,7 +4,7 @@
 --     nothing_found                    what is found in a new graph
 --     repairs_by                       a repair by a plan
 use Rattle.std.proofs.Common.{◌≡◌, ◌≢◌, ◌≤◌, ◌<◌, ◌+◌, ◌-◌, ◌%◌, ◌++◌, ℕ, zero, suc, List, [], ◌∷◌, length, map, reverse, replicate, take, Option, Some, None, Result, Ok, Err, IfOk, refl, sym, ap, ◌∙◌, subst, arith, inl, inr}
-use Rattle.std.specs.Prelude.{All, slice_get, flat_map}
+use Rattle.std.specs.Prelude.{All, flat_map}
 use Rattle.std.proofs.lemmas.List.{length-map, length-reverse, reverse-reverse}
 use Rattle.std.proofs.lemmas.List.Elements.{All-nil, All-weaker}
 use Rattle.slot_arena.specs.Slots.{Place, value_at, IsGiven, with_places}
@@ -16,19 +16,18 @@ use Rattle.module_graph.specs.Graphs.{AreModules}
 use Rattle.module_graph.specs.Calls.{Calls, begin, reserved}
 use Rattle.module_graph.specs.Modules.{IsModule}
 use Rattle.module_graph.specs.Many.{AreApart}
-use Rattle.trace_spec.specs.Modules.{Module}
-use Rattle.trace_graph.specs.Links.{Links, IsLinked, IsLive, IsSet, module_in, targets_in, modules_of, all_targets}
+use Rattle.trace_graph.specs.Links.{Links, IsLinked, IsLive, IsSet, module_in, targets_in}
 use Rattle.trace_graph.proofs.Showing.{all_reversed}
 use Rattle.graph_repair.specs.declared.parts.Parts.{Parts}
 use Rattle.graph_repair.specs.declared.parts.Plan.{Plan}
 use Rattle.graph_repair.specs.Matching.{AreOnce, somes, missing, filled, IsAlike, AreKept, IsMatching}
 use Rattle.graph_repair.specs.Finding.{names, HasLike, IsFound}
 use Rattle.graph_repair.specs.Leads.{AreInTheirPlaces}
-use Rattle.graph_repair.specs.Repairs.{Repairs, Lasts, ShowsSame, led_by, most_made}
+use Rattle.graph_repair.specs.Repairs.{Repairs, ShowsSame, led_by, most_made}
 use Rattle.graph_repair.specs.Plans.{AreAdded, HasRoom, IsReady, IsRepaired, IsBegun, IsPlanned, shown, base}
 use Rattle.module_graph.proofs.WellMade.{modules-grown}
 use native.Mathlib.Nat.{div-add-mod', mod-lt}
-use Rattle.graph_repair.proofs.Joining.{Joined, join_all, added_well, added_count, kept_count}
+use Rattle.graph_repair.proofs.Joining.{join_all, added_well, added_count, kept_count}
 
 abbrev Vertex : Type 0
 Vertex = vertex.Module

@@ -2,26 +2,24 @@
 --     Called                     the calls of a repair, and what they leave
 --     live_behind, apart_behind, within_behind      what targets can be set behind them
 --     repaired                   what is repaired then
-use Rattle.std.proofs.Common.{◌≡◌, ◌≢◌, ◌≤◌, ◌<◌, ◌+◌, ◌++◌, ℕ, zero, suc, List, [], ◌∷◌, length, map, reverse, Option, Some, None, refl, sym, ap, ◌∙◌, subst, arith}
+use Rattle.std.proofs.Common.{◌≡◌, ◌≢◌, ◌<◌, ◌+◌, ◌++◌, suc, List, [], ◌∷◌, length, map, reverse, Option, Some, None, refl, sym, ap, ◌∙◌, subst, arith}
 use Rattle.std.specs.Prelude.{All, flat_map, slice_index_or}
 use Rattle.std.proofs.lemmas.List.{length-map, length-reverse}
 use Rattle.std.proofs.lemmas.List.Elements.{All-nil, All-cons, All-head, All-tail, All-weaker}
 use Rattle.slot_arena.specs.Slots.{Place, value_at, IsGiven}
-use Rattle.slot_arena.specs.Counts.{spare, live}
+use Rattle.slot_arena.specs.Counts.{live}
 use Rattle.slot_arena.specs.declared.slot.Slot.{Slot}
 use Rattle.slot_arena.proofs.SlotLaws.{is_given}
 use Rattle.module_graph.specs.declared.module.Module as vertex
-use Rattle.module_graph.specs.Modules.{IsModule}
-use Rattle.module_graph.specs.Calls.{Calls}
-use Rattle.module_graph.specs.Many.{AreApart, AddsAll, RemovesAll, AreLive, ConnectsAll, requests_in, dealt, slot_in}
+use Rattle.module_graph.specs.Many.{AreApart, AddsAll, RemovesAll, AreLive, ConnectsAll, dealt, slot_in}
 use Rattle.module_graph.proofs.Many.{calls_on}
 use Rattle.module_graph.proofs.Dealing.{deals_in_order}
-use Rattle.trace_graph.specs.Links.{Links, IsLinked, IsLive, module_of, source_of, modules_of, sources_of, targets_in, all_targets}
+use Rattle.trace_graph.specs.Links.{Links, IsLive, targets_in}
 use Rattle.trace_graph.specs.Building.{AreLinked}
 use Rattle.trace_graph.proofs.Showing.{is_graph_of, is_linked}
 use Rattle.graph_repair.specs.declared.parts.Parts.{Parts}
 use Rattle.graph_repair.specs.Matching.{somes, missing, filled}
-use Rattle.graph_repair.specs.Repairs.{IsCopyOf, Lasts, led_by}
+use Rattle.graph_repair.specs.Repairs.{led_by}
 use Rattle.graph_repair.proofs.GivenSlots.{stays_given}
 use Rattle.graph_repair.specs.Plans.{merged, IsReady, IsRepaired, shown}
 

@@ -9,7 +9,7 @@
 --     IsMatching old l keeps     to each module of the trace l the slot that it has in the old graph, or none: a slot
 --                                stands there once, under a module like its own; and where no module stands twice in
 --                                either, each module that is in both is found
-use Rattle.std.specs.Prelude.{◌≡◌, ⊤, ℕ, ◌+◌, List, [], ◌∷◌, length, slice_get, Option, Some, None}
+use Rattle.std.specs.Prelude.{◌≡◌, ⊤, ℕ, ◌+◌, List, [], ◌∷◌, slice_get, Option, Some, None}
 use Rattle.slot_arena.specs.Slots.{Place, value_at}
 use Rattle.slot_arena.specs.declared.slot.Slot.{Slot}
 use Rattle.module_graph.specs.declared.module.Module as vertex

@@ -13,15 +13,14 @@
 --                                places: it begins a new graph where these and the added modules reach the most
 use Rattle.std.specs.Prelude.{◌≡◌, ⊤, ℕ, ◌+◌, ◌≤◌, ◌<◌, List, [], ◌∷◌, All, length, map, reverse, Option, Some, None}
 use Rattle.std.specs.Prelude.{◌↔◌, ◌≢◌, vec_len, vec_capacity}
-use Rattle.slot_arena.specs.Slots.{Place, value_at, IsGiven}
+use Rattle.slot_arena.specs.Slots.{Place, value_at}
 use Rattle.slot_arena.specs.Counts.{spare, live}
 use Rattle.slot_arena.specs.declared.slot.Slot.{Slot}
 use Rattle.module_graph.specs.declared.module.Module as vertex
-use Rattle.module_graph.specs.Calls.{Calls}
 use Rattle.module_graph.specs.Modules.{IsModule, IsUntied}
 use Rattle.module_graph.specs.Many.{AreApart, requests_in}
 use Rattle.trace_graph.specs.Links.{Links, IsLinked, IsLive, module_of, source_of, modules_of, sources_of, all_targets}
-use Rattle.graph_repair.specs.Matching.{somes, missing, filled, IsMatching}
+use Rattle.graph_repair.specs.Matching.{somes, missing, IsMatching}
 use Rattle.graph_repair.specs.Repairs.{IsCopyOf, Lasts, led_by, most_made}
 use Rattle.graph_repair.specs.declared.parts.Parts.{Parts}
 use Rattle.graph_repair.specs.declared.parts.Plan.{Plan}

@@ -9,7 +9,7 @@
 --     ShowsSame old new          the same slots are shown, each with its module; the graph differs by free places at most
 --     most_made                  the number of places at which a new graph is begun
 use Rattle.std.specs.Prelude.{◌≡◌, ℕ, ◌+◌, ◌-◌, ◌^◌, ◌<◌, List, All, length, map, Some}
-use Rattle.slot_arena.specs.Slots.{Place, value_at, IsGiven}
+use Rattle.slot_arena.specs.Slots.{value_at, IsGiven}
 use Rattle.slot_arena.specs.Counts.{live}
 use Rattle.slot_arena.specs.declared.slot.Slot.{Slot}
 use Rattle.std.specs.Prelude.{Option}

@@ -1,7 +1,6 @@
-use Rattle.std.proofs.Common.{◌≡◌, ◌++◌, ◌∷◌, List, [], length, map, sym, ap, ◌∙◌, append-nil, append_assoc}
+use Rattle.std.proofs.Common.{◌≡◌, ◌++◌, ◌∷◌, map, sym, ap, ◌∙◌, append-nil, append_assoc}
 use Rattle.std.specs.Prelude.{flat_map}
 use Rattle.std.proofs.lemmas.List.{map-append}
-use Rattle.slot_arena.specs.declared.slot.Slot.{Slot}
 use Rattle.module_graph.proofs.Many.{no_slots}
 use Rattle.graph_repair.specs.Leads.{place_in, AreByPlace, targets_under}
 use Rattle.graph_repair.proofs.Led.{in_their_places}

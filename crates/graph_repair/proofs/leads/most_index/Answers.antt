@@ -1,4 +1,4 @@
-use Rattle.std.proofs.Common.{◌<◌, ◌≤◌, ◌∷◌, [], length, ap, sym, subst, arith}
+use Rattle.std.proofs.Common.{◌<◌, sym, subst, arith}
 use Rattle.std.specs.Prelude.{All}
 use Rattle.std.proofs.lemmas.List.Elements.{All-nil, All-cons}
 use Rattle.module_graph.proofs.Many.{no_slots}

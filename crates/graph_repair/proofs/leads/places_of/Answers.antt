@@ -1,4 +1,4 @@
-use Rattle.std.proofs.Common.{◌≡◌, ◌<◌, length, ap, sym, subst, arith, length-append, length-set}
+use Rattle.std.proofs.Common.{◌≡◌, ◌<◌, length, ap, sym, subst, arith, length-set}
 use Rattle.std.specs.Prelude.{All}
 use Rattle.std.proofs.lemmas.Option.{slice_get_within}
 use Rattle.slot_arena.specs.declared.slot.Slot.{Slot}

@@ -1,4 +1,4 @@
-use Rattle.std.proofs.Common.{◌≡◌, length, map, sym, ◌∙◌, refl, arith}
+use Rattle.std.proofs.Common.{sym, ◌∙◌, refl, arith}
 use Rattle.std.proofs.lemmas.List.{length-map}
 use Rattle.module_spec.specs.declared.request.Request.{Request}
 use Rattle.graph_repair.proofs.AskedAlike.{same_lists, asked_is, not_alike, texts}

@@ -1,4 +1,4 @@
-use Rattle.std.proofs.Common.{◌≡◌, ◌≤◌, length, drop, reverse}
+use Rattle.std.proofs.Common.{◌≤◌, length, drop, reverse}
 use Rattle.graph_repair.specs.Finding.{IsFound}
 use Rattle.graph_repair.proofs.matching.find_kept.Given as goal
 

@@ -1,8 +1,8 @@
-use Rattle.std.proofs.Common.{sym, ◌∙◌, subst, None}
+use Rattle.std.proofs.Common.{sym, ◌∙◌}
 use Rattle.std.specs.HashMap as map
 use Rattle.trace_spec.specs.Modules.{is_module}
-use Rattle.std.proofs.Common.{◌≡◌, ap, Some}
-use Rattle.graph_repair.proofs.FoundModules.{keeps_by, keeps_none}
+use Rattle.std.proofs.Common.{ap}
+use Rattle.graph_repair.proofs.FoundModules.{keeps_by}
 use Rattle.graph_repair.proofs.matching.keep_module.Goals as goal
 
 pub returns-in-Some : goal.returns-in-Some

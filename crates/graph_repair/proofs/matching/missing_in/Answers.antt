@@ -1,4 +1,4 @@
-use Rattle.std.proofs.Common.{◌≡◌, ◌≤◌, length, ap, sym, ◌∙◌, arith}
+use Rattle.std.proofs.Common.{◌≤◌, length, ap, arith}
 use Rattle.graph_repair.specs.Matching.{missing}
 use Rattle.graph_repair.proofs.Filling.{missing_front, none_missing, missing_few}
 use Rattle.graph_repair.proofs.matching.missing_in.Goals as goal

@@ -1,4 +1,4 @@
-use Rattle.std.proofs.Common.{◌≡◌, ◌++◌, ◌∷◌, [], sym, ap, ◌∙◌, append-nil, append_assoc}
+use Rattle.std.proofs.Common.{◌++◌, ◌∷◌, [], sym, ap, ◌∙◌, append-nil, append_assoc}
 use Rattle.graph_repair.specs.Matching.{somes}
 use Rattle.graph_repair.proofs.Filling.{somes_front, no_somes_left}
 use Rattle.graph_repair.proofs.matching.somes_of.Goals as goal

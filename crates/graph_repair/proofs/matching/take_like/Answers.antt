@@ -1,5 +1,5 @@
-use Rattle.std.proofs.Common.{◌≡◌, refl, sym, ◌∙◌, subst}
-use Rattle.std.specs.Prelude.{IsTrue, slice_get}
+use Rattle.std.proofs.Common.{refl, sym, ◌∙◌}
+use Rattle.std.specs.Prelude.{slice_get}
 use Rattle.graph_repair.proofs.FoundModules.{set_some}
 use Rattle.graph_repair.proofs.matching.take_like.Goals as goal
 

@@ -1,4 +1,4 @@
-use Rattle.std.proofs.Common.{◌≡◌, ◌≤◌, length, drop, reverse}
+use Rattle.std.proofs.Common.{◌≤◌, length, drop, reverse}
 use Rattle.graph_repair.specs.Plans.{AreAdded}
 use Rattle.graph_repair.proofs.parts.added_of.Given as goal
 

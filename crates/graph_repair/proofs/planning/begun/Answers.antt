@@ -1,4 +1,4 @@
-use Rattle.std.proofs.Common.{◌≡◌, ◌≤◌, ◌++◌, [], length, replicate, take, None, sym, ap, ◌∙◌, refl, subst, arith}
+use Rattle.std.proofs.Common.{◌≡◌, ◌≤◌, length, ap, refl, subst, arith}
 use Rattle.slot_arena.specs.Slots.{with_places}
 use Rattle.slot_arena.specs.Counts.{spare, wanted}
 use Rattle.graph_repair.proofs.PlannedParts.{begun_so, resized}

@@ -1,4 +1,4 @@
-use Rattle.std.proofs.Common.{◌≡◌, ◌≤◌, ◌<◌, ◌+◌, List, length, None, IfOk, sym, ap, ◌∙◌, refl, subst, arith}
+use Rattle.std.proofs.Common.{◌≡◌, ◌≤◌, List, length, None, ap, ◌∙◌, refl, arith}
 use Rattle.slot_arena.specs.Counts.{live}
 use Rattle.slot_arena.specs.declared.slot.Slot.{Slot}
 use Rattle.graph_repair.specs.declared.parts.Plan.{Plan}

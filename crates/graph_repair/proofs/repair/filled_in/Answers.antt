@@ -1,4 +1,4 @@
-use Rattle.std.proofs.Common.{◌≡◌, ◌++◌, ◌∷◌, length, ap, subst, sym, arith}
+use Rattle.std.proofs.Common.{◌≡◌, ◌++◌, ◌∷◌, length, ap, subst, arith}
 use Rattle.graph_repair.specs.Matching.{missing, filled}
 use Rattle.graph_repair.proofs.Filling.{next_enough, one_is_enough, filled_more, none_left}
 use Rattle.graph_repair.proofs.repair.filled_in.Goals as goal

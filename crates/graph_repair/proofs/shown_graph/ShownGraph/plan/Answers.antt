@@ -1,4 +1,4 @@
-use Rattle.std.proofs.Common.{◌≡◌, List, length, IfOk, sym, ap, ◌∙◌, subst}
+use Rattle.std.proofs.Common.{◌≡◌, List, length, sym, subst}
 use Rattle.std.specs.Prelude.{All}
 use Rattle.slot_arena.specs.Counts.{live}
 use Rattle.slot_arena.specs.declared.slot.Slot.{Slot}
