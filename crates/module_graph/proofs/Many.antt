@@ -75,7 +75,7 @@ module _ (g next new : List (Place Module)) (s : Slot) (m : Module) (modules : L
 -- ---- removing
 
 pub removes_none : (g : List (Place Module)) → RemovesAll g g []
-removes_none g = record { calls = begin; here = All-nil (λ s. value_at g s ≡ None); elsewhere = λ s apart. refl; freed = omega arith; made = refl }
+removes_none g = record { calls = begin; here = All-nil (λ s. value_at g s ≡ None); elsewhere = λ s apart. refl; freed = omega arith; fewer = λ apart alive. omega arith; made = refl }
 
 -- what one removal changes
 record Takes (g next : List (Place Module)) (s : Slot) : Type 0 where
@@ -83,16 +83,17 @@ record Takes (g next : List (Place Module)) (s : Slot) : Type 0 where
   here : value_at next s ≡ None
   elsewhere : (t : Slot) → t ≢ s → value_at next t ≡ value_at g t
   freed : spare g ≤ spare next
+  less : (m : Module) → value_at g s ≡ Some m → live next + 1 ≡ live g
   made : length next ≡ length g
 
 takes : (g next : List (Place Module)) (s : Slot) (found : Option Module) → value_at g s ≡ found → next ≡ taken_from g s found → Takes g next s
 takes g next s None none is =
     subst (λ h. Takes g h s) (sym is)
-    (record { calls = begin; here = none; elsewhere = λ t apart. refl; freed = omega arith; made = refl })
+    (record { calls = begin; here = none; elsewhere = λ t apart. refl; freed = omega arith; less = λ m some. (let both : Some m ≡ None = sym some ∙ none in absurd (cc)); made = refl })
 takes g next s (Some m) some is =
     let law = each_removes Module g s m some in
     subst (λ h. Takes g h s) (sym is)
-    (record { calls = removed s m some begin; here = law.here; elsewhere = law.elsewhere; freed = (let f = law.freed in omega (arith, f)); made = law.made })
+    (record { calls = removed s m some begin; here = law.here; elsewhere = law.elsewhere; freed = (let f = law.freed in omega (arith, f)); less = λ n is. law.one_less; made = law.made })
 
 -- a slot is none of these, or what holds of them all holds of it
 apart_or : (P : Slot → Type 0) (s : Slot) (slots : List Slot) → All P slots → All (λ t. t ≢ s) slots ⊎ P s
@@ -105,6 +106,15 @@ apart_or P s (t ∷ slots) all =
         | inr is ↦ inr is
       ]
     ]
+
+-- what is there under other slots is there still
+still_there : (g next : List (Place Module)) (s : Slot) (slots : List Slot) → ((t : Slot) → t ≢ s → value_at next t ≡ value_at g t) → All (λ t. t ≢ s) slots → All (λ t. (m : Module) × (value_at g t ≡ Some m)) slots → All (λ t. (m : Module) × (value_at next t ≡ Some m)) slots
+still_there g next s [] keeps apart alive = All-nil (λ t. (m : Module) × (value_at next t ≡ Some m))
+still_there g next s (t ∷ slots) keeps apart alive =
+    let here = All-head (λ t. (m : Module) × (value_at g t ≡ Some m)) t slots alive in
+    All-cons (λ t. (m : Module) × (value_at next t ≡ Some m)) t slots
+    (here.0, keeps t (All-head (λ u. u ≢ s) t slots apart) ∙ here.1)
+    (still_there g next s slots keeps (All-tail (λ u. u ≢ s) t slots apart) (All-tail (λ t. (m : Module) × (value_at g t ≡ Some m)) t slots alive))
 
 pub removes_one : (g next new : List (Place Module)) (s : Slot) (more : List Slot) (found : Option Module) → found ≡ value_at g s → next ≡ taken_from g s found → RemovesAll next new more → RemovesAll g new (s ∷ more)
 removes_one g next new s more found value is rest =
@@ -121,6 +131,11 @@ removes_one g next new s more found value is rest =
           rest.elsewhere t (All-tail (λ u. u ≢ t) s more apart)
           ∙ one.elsewhere t (λ e. All-head (λ u. u ≢ t) s more apart (sym e));
       freed = (let a = one.freed in let b = rest.freed in omega (arith, a, b));
+      fewer = λ apart alive.
+          (let first = All-head (λ t. (m : Module) × (value_at g t ≡ Some m)) s more alive in
+          let behind = All-tail (λ t. (m : Module) × (value_at g t ≡ Some m)) s more alive in
+          let a = one.less first.0 first.1 in
+          let b = rest.fewer apart.1 (still_there g next s more one.elsewhere apart.0 behind) in omega (arith, a, b));
       made = rest.made ∙ one.made;
     }
 

@@ -4,7 +4,8 @@
 -- IsSameElsewhere old new slots     the map from slots to modules is the same at every other slot
 -- AddsAll old new modules added     each module stands under a slot of its own, in order; none of these was given
 --                                   before, and nothing else changes
--- RemovesAll old new gone           none of these slots is live any more, and nothing else changes
+-- RemovesAll old new gone           none of these slots is live any more, and nothing else changes; where each was, and
+--                                   stands there once, so many modules fewer
 -- requests_in modules               how many requests these modules have together
 -- AreLive g slots count             these slots are live, and their modules have at most so many requests
 -- slot_in slots place               the slot at a place among these
@@ -42,6 +43,7 @@ pub record RemovesAll (old new : List (Place Module)) (gone : List Slot) : Type 
   pub here : All (λ s. value_at new s ≡ None) gone
   pub elsewhere : IsSameElsewhere old new gone
   pub freed : spare old ≤ spare new
+  pub fewer : AreApart gone → All (λ s. (m : Module) × (value_at old s ≡ Some m)) gone → live new + length gone ≡ live old
   pub made : length new ≡ length old
 
 abbrev pub slot_in : List Slot → ℕ → Slot

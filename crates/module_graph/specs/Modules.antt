@@ -5,10 +5,12 @@
 -- asked_at m i         the specifier of the i-th request
 -- literal_at m i       the slice of the source that is its literal
 -- target_at m i        its target, where one is set
+-- IsUntied m v          v is the module m, and none of its targets is set
 -- with_target m i to   m with the target of the i-th request set
 -- SetsTarget old new i to done     done, and the i-th request's target is set; or there is no such request, and
 -- nothing changes
 use Rattle.std.specs.Prelude.{◌≡◌, ℕ, ◌-◌, ◌<◌, ◌≤◌, Bool, true, false, List, length, take, drop, slice_get, slice_set}
+use Rattle.std.specs.Prelude.{replicate}
 use Rattle.std.specs.Prelude.{Option, Some, None}
 use Rattle.slot_arena.specs.declared.slot.Slot.{Slot}
 use Rattle.module_spec.specs.declared.request.Request.{Request}
@@ -20,6 +22,14 @@ HasSpan m i = (r : Request) → slice_get m.requests.value i ≡ Some r → (r.f
 pub record IsModule (m : Module) : Type 0 where
   pub one_each : length m.targets ≡ length m.requests.value
   pub inside : (i : ℕ) → HasSpan m i
+
+pub record IsUntied (m v : Module) : Type 0 where
+  pub well_made : IsModule v
+  pub path : v.path ≡ m.path
+  pub suffix : v.suffix ≡ m.suffix
+  pub source : v.source.value ≡ m.source.value
+  pub requests : v.requests.value ≡ m.requests.value
+  pub targets : v.targets ≡ replicate (length m.requests.value) None
 
 -- bytes from one number on, and before another
 abbrev pub slice : List ℕ → ℕ → ℕ → List ℕ

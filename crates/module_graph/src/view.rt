@@ -1,13 +1,15 @@
-ghost use Rattle.std.specs.Prelude.{◌≡◌, ◌<◌, length, option_copied, Some, None};
+ghost use Rattle.std.specs.Prelude.{◌≡◌, ◌<◌, length, option_copied, IfOk, Some, None};
 ghost use Rattle.slot_arena.specs.Slots.{value_at};
 ghost use Rattle.slot_arena.specs.Counts.{live};
-ghost use Rattle.module_graph.specs.Modules.{IsModule, asked_at, literal_at, target_at};
+ghost use Rattle.module_graph.specs.Modules.{IsModule, IsUntied, asked_at, literal_at, target_at};
 
 use crate::graph::Graph;
 use crate::module::Module;
-use shared_types::Bytes;
+use shared_types::{Bytes, Listed, Memory};
 use slot_arena::Slot;
+use std::alloc::Global;
 use std::marker::Model;
+use std::rc::Rc;
 use tree_model::Path;
 use web_url::Suffix;
 
@@ -134,5 +136,21 @@ impl<'a> ModuleView<'a> {
             Some(target) => *target,
             None => None,
         }
+    }
+
+    /// The module for another graph: its targets aren't set, and the rest is shared.
+    pub fn untied(&self, alloc: Global) -> Result<Module, Memory>
+        ensures { IfOk result (IsUntied self.now) }
+    {
+        let module = self.module;
+        let mut targets = Vec::new(alloc);
+        targets.resize(module.requests.len(), None)?;
+        Ok(Module {
+            path: module.path.copy(alloc)?,
+            suffix: module.suffix.copy(alloc)?,
+            source: Rc::clone(&module.source)?,
+            requests: Rc::clone(&module.requests)?,
+            targets: Listed::from_vec(targets),
+        })
     }
 }

@@ -75,6 +75,14 @@ impl TraceGraph {
         slot_in(&self.slots, place)
     }
 
+    /// The slots of the modules, in trace order.
+    pub fn slots(&self) -> &[Slot]
+        ensures slots { result.now ≡ self.now.slots }
+        ensures linked { IsLinked self.now }
+    {
+        self.slots.as_slice()
+    }
+
     /// The slot of the module to which the entry with this number leads, counted from 0.
     pub fn root(&self, entry: usize) -> Option<Slot>
         ensures slot { result ≡ slice_get self.now.roots entry }

@@ -1,0 +1,5 @@
+pub mod Matching
+pub mod Finding
+pub mod Repairs
+pub mod Leads
+pub mod Plans
