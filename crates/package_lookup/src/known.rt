@@ -113,8 +113,8 @@ impl Known {
         }
     }
 
-    // What is held for a path, by a look at the folder where nothing was.
-    fn hold<F: Folder>(
+    /// What is held for a path, by a look at the folder where nothing was. It counts nothing.
+    pub fn hold<F: Folder>(
         &mut self,
         alloc: Global,
         folder: &mut F,

@@ -20,7 +20,7 @@ ghost use Rattle.package_lookup.specs.Lookups.{state_of, IsSameLookup};
 use crate::held::Reading;
 use crate::{Known, Lookup, LookupFault, Seen};
 use condition_match::Conditions;
-use package_record::{Package, PackageFault, is_ready, read_package};
+use package_record::{Package, PackageFault, is_ready, read_package_under};
 use shared_types::{Bytes, Memory};
 use std::alloc::{AllocError, Global};
 use std::rc::Rc;
@@ -259,7 +259,7 @@ fn reading_of(
 ) -> Result<Reading, Memory>
     ensures { IfOk result (IsReadingOf (File bytes.now)) }
 {
-    match read_package(alloc, bytes, conditions) {
+    match read_package_under(alloc, bytes, conditions) {
         Ok(package) => Ok(Reading::Found(Rc::new(alloc, package)?)),
         Err(PackageFault::InvalidConfig) => Ok(Reading::NotWellFormed),
         Err(PackageFault::TooDeep) => Ok(Reading::TooDeep),

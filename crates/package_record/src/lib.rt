@@ -8,5 +8,5 @@ mod subpaths;
 
 pub use left::LeftTargets;
 pub use node_spec::PackageKind;
-pub use package_json::{Package, PackageFault, is_ready, read_package};
+pub use package_json::{Package, PackageFault, is_ready, read_package, read_package_under};
 pub use subpaths::{Index, Subpaths};

@@ -48,9 +48,16 @@ pub enum PackageFault {
     Memory,
 }
 
-/// The record of the bytes of a package.json. A byte order mark before the text is passed over. Of many bytes it keeps
-/// what is left of the targets under the conditions, so that a request doesn't go over all of them again.
-pub fn read_package(
+/// The record of the bytes of a package.json. A byte order mark before the text is passed over.
+pub fn read_package(alloc: Global, bytes: &[u8]) -> Result<Package, PackageFault>
+    ensures { MatchResult result (IsReadFrom bytes.now) (IsNoRecord bytes.now) }
+{
+    read_package_under(alloc, bytes, None)
+}
+
+/// The same. Of many bytes it keeps what is left of the targets under the conditions, so that a request doesn't go over
+/// all of them again.
+pub fn read_package_under(
     alloc: Global,
     bytes: &[u8],
     conditions: Option<&Conditions>,

@@ -4,7 +4,7 @@ use Rattle.ordered_json.proofs.IsJsonLemmas.{reads_json}
 use Rattle.node_spec.proofs.OneRecord.{record_names_are_distinct}
 use Rattle.package_record.specs.Shown.{record_shown}
 use Rattle.package_record.proofs.RecordLemmas.{record_from, object_record, no_object}
-use Rattle.package_record.proofs.package_json.read_package.Goals as goal
+use Rattle.package_record.proofs.package_json.read_package_under.Goals as goal
 
 pub returns-in-Ok-package_of : goal.returns-in-Ok-package_of
 returns-in-Ok-package_of c =
