@@ -1,6 +1,7 @@
 pub mod Edits
 pub mod EditFaults
 pub mod SessionStates
+pub mod Showings
 pub mod Replies
 pub mod SessionLines
 pub mod Conversations

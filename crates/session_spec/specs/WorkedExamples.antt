@@ -1,6 +1,7 @@
 -- Worked examples: lines, changes of a small site, what a line does at each place, and whole inputs.
 --     LineExamples                    how lines are read
 --     site, draft_in files entries    a small site, and a site as a draft
+--     put_of count                    the line of a put of so many bytes
 --     put_at path bytes, drop_at path, link_to entry, unlink_of entry     changes
 --     ShownBy sights seen             this is seen at these paths
 --     Leaves files edit seen          the edit is made, and this stands at these paths behind it
@@ -11,12 +12,15 @@
 --     FrugalExamples                  what an edit asks anew, and how many steps lines take
 use Rattle.std.specs.FinMap.{get}
 use Rattle.std.specs.List.{list_any}
-use Rattle.std.specs.Prelude.{◌≡◌, ◌++◌, ◌∷◌, [], ⊤, ℕ, true, false, List, length, bytes_eq, codes, Contains}
+use Rattle.std.specs.Fmt.{decimal}
+use Rattle.std.specs.Prelude.{◌≡◌, ◌+◌, ◌++◌, ◌∷◌, [], ⊤, ℕ, true, false, List, length, bytes_eq, codes, Contains}
 use Rattle.std.specs.Prelude.{Option, Some, None, Ok, Err}
 use Prim.Native.String.{String}
 use Rattle.asking_spec.specs.Askings.{questions}
+use Rattle.tree_spec.specs.Limits.{limit_number}
 use Rattle.tree_spec.specs.LookAskings.{Sights}
 use Rattle.tree_spec.specs.Trees.{Tree}
+use Rattle.tree_spec.specs.declared.LimitName.TheVariants.{File}
 use Rattle.tree_spec.specs.declared.Entry.{Entry}
 use Rattle.tree_spec.specs.declared.Entry.TheVariants.{Stored, Directory}
 use Rattle.import_map_spec.specs.WrittenMaps.{map_of}
@@ -37,6 +41,9 @@ use Rattle.session_spec.specs.SessionLines.{changes, begins, commits, shows_map,
 use Rattle.session_spec.specs.SessionLines.{reads, malformed, unfinished, read_line}
 use Rattle.session_spec.specs.SessionStates.{Counts, SessionState}
 use Rattle.session_spec.specs.SessionSteps.{EditsSpend}
+
+abbrev pub put_of : ℕ → List ℕ
+put_of count = codes "put /lib " ++ (decimal count ++ (10 ∷ []))
 
 abbrev pub put_at : String → List ℕ → Change
 put_at path bytes = Put (codes path) bytes
@@ -69,8 +76,8 @@ pub record LineExamples : Type 0 where
   pub no_line_end : read_line (lines ("put /lib 2" ∷ []) ++ codes "{}") ≡ unfinished
   pub not_followed : read_line (lines ("put /lib 1" ∷ "{}" ∷ [])) ≡ malformed
   pub leading_zero : read_line (lines ("put /lib 02" ∷ "{}" ∷ [])) ≡ malformed
-  pub most_bytes : read_line (lines ("put /lib 16777216" ∷ [])) ≡ unfinished
-  pub too_many_bytes : read_line (lines ("put /lib 16777217" ∷ [])) ≡ malformed
+  pub most_bytes : read_line (put_of (limit_number File)) ≡ unfinished
+  pub too_many_bytes : read_line (put_of (limit_number File + 1)) ≡ malformed
   pub no_number : read_line (lines ("put /lib " ∷ "" ∷ [])) ≡ malformed
   pub no_space : read_line (lines ("put /lib" ∷ "" ∷ [])) ≡ malformed
   pub no_path : read_line (lines ("put lib 0" ∷ "" ∷ [])) ≡ malformed
