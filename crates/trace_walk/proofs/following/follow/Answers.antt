@@ -1,4 +1,4 @@
-use Rattle.std.proofs.Common.{◌≡◌, Ok, Err, refl, sym, subst, arith}
+use Rattle.std.proofs.Common.{◌≡◌, ◌∙◌, Ok, Err, refl, sym, subst, arith}
 use Rattle.tree_spec.specs.declared.LimitName.TheVariants.{Depth}
 use Rattle.trace_spec.specs.declared.TraceFault.TheVariants.{Limit, Memory}
 use Rattle.trace_walk.specs.Kinds.{IsOfWalk}
@@ -21,8 +21,8 @@ returns-in_err-path-clause-met g c = λ r is all.
 
 pub returns-in-Resolved-clause-met : goal.returns-in-Resolved-clause-met
 returns-in-Resolved-clause-met g c = λ r is all.
-    let target : c.new-target.result ≡ record { path = c.in-Resolved.path; suffix = c.in-Resolved.suffix } = (λ i. record { path = c.new-target.ensures.path i; suffix = c.new-target.ensures.suffix i }) in
-    follow_led _ _ c.args.config.now (before_of c.args.tables.now) r c.conditions-conditions.result.now c.args.referrer.now.path c.args.specifier.now (record { referrer = c.args.referrer.now.name; asked = c.in_ok-asked.asked }) (Ok (record { path = c.in-Resolved.path; suffix = c.in-Resolved.suffix })) (done c.put.result c.put.new.self)
+    let target : c.new-target.result ≡ c.in-Resolved.module = (λ i. record { path = (c.new-target.ensures.path ∙ c.into_parts.ensures.path) i; suffix = (c.new-target.ensures.suffix ∙ c.into_parts.ensures.suffix) i }) in
+    follow_led _ _ c.args.config.now (before_of c.args.tables.now) r c.conditions-conditions.result.now c.args.referrer.now.path c.args.specifier.now (record { referrer = c.args.referrer.now.name; asked = c.in_ok-asked.asked }) (Ok c.in-Resolved.module) (done c.put.result c.put.new.self)
     c.conditions-conditions.ensures is.path ((c.in_ok-asked.ensures.checked c.args.config.now (before_of c.args.tables.now) r (targets_counted c.args.tables.now c.len.result (let e = c.len.ensures in let kept = c.args.tables.now.targets.ok.0 in omega (arith, e, kept))) is).given (λ e. cc)) (rw (c.as_str.ensures, c.in-Resolved.is) at c.in_ok-path.ensures.met) (rw target at (c.put.ensures.put r is all))
 
 pub returns-in_ok-refusal-in-Refused-clause-met : goal.returns-in_ok-refusal-in-Refused-clause-met
