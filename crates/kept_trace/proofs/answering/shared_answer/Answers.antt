@@ -9,4 +9,4 @@ pub returns-in-Err-module-clause-is : goal.returns-in-Err-module-clause-is
 returns-in-Err-module-clause-is c = inr (Ok (module_of c.in-Ok.found.value), rw c.in-Ok.is refl, refl)
 
 pub returns-clause-is : goal.returns-clause-is
-returns-clause-is c = inl (rw c.in-Ok.is (ap Ok (rw c.deref.ensures at c.in-Ok-module.ensures)))
+returns-clause-is c = inl (rw c.in-Ok.is (ap Ok (ap Ok (rw c.deref.ensures at c.in-Ok-module.ensures))))
