@@ -11,7 +11,7 @@ use Rattle.tree_spec.specs.States.{FolderState, SourceState, SinkState}
 use Rattle.tree_spec.specs.Trees.{Tree}
 use Rattle.tree_spec.specs.declared.LimitName.TheVariants.{Session as Limited}
 use Rattle.tree_spec.proofs.ToldStates.{if_some, if_two, if_all}
-use Rattle.trace_spec.specs.Laws.{IsLookedAt, asked_by_end}
+use Rattle.trace_spec.specs.Laws.{IsLookedAt}
 use Rattle.trace_spec.specs.Modules.{Config}
 use Rattle.config_spec.specs.Projects.{IsConfigOf}
 use Rattle.config_spec.specs.declared.Command.{Command}
@@ -282,9 +282,10 @@ opening_spends config before spent mid is_config few =
           let same = one_config refresh_words tree Refresh command config other is are in
           let all = always_asked (get tree) config in
           let some = each all.asked all.are in
+          let here : SpendsByTrace tree Refresh config spent mid =
+          record { asked = all.asked; are = all.are; few = omega (arith, some); opened = inr (opens.nothing Refresh mapping.refresh) } in
           subst (λ (one : Command). SpendsByTrace tree one other spent mid) same.one_command
-          (subst (λ (one : Config). SpendsByTrace tree Refresh one spent mid) same.one_config
-          (record { asked = all.asked; are = all.are; few = omega (arith, some); opened = inr (opens.nothing Refresh mapping.refresh) }));
+          (subst (λ (one : Config). SpendsByTrace tree Refresh one spent mid) same.one_config here);
       no_config = λ none no_measure. absurd (none Refresh config is);
     }) is_config few
 
