@@ -6,6 +6,7 @@ use Rattle.tree_spec.specs.Limits.{limit_number}
 use Rattle.tree_spec.specs.Trees.{Tree}
 use Rattle.tree_spec.specs.declared.LimitName.TheVariants.{Session}
 use Rattle.tree_spec.proofs.ToldStates.{if_all}
+use Rattle.generator_spec.proofs.CountedQuestions.{none_by_words}
 use Rattle.session_spec.specs.declared.Change.{Change}
 use Rattle.session_spec.specs.Conversations.{makes, holds, shows}
 use Rattle.session_spec.specs.Openings.{refresh_words}
@@ -26,7 +27,7 @@ more_steps : (spent most : ℕ) → spent ≤ spent + most
 more_steps spent most = omega arith
 
 same_on : (tree : Tree) (taken : List ℕ) (spent : ℕ) → SpendsOn tree taken spent spent
-same_on tree taken spent = unopened (λ command config asked is by_end. omega arith)
+same_on tree taken spent = unopened (none_by_words refresh_words tree spent)
 
 pub none_spent : (told : Option Tree) (taken : List ℕ) (spent : ℕ) → SessionSpends told taken spent spent
 none_spent told taken spent = record {
