@@ -13,6 +13,7 @@ pub mod ShapedSessions
 pub mod FaultsOfEdits
 pub mod SessionLooking
 pub mod SessionSpending
+pub mod SessionDoing
 pub mod FreshMaps
 pub mod RefusalStatuses
 pub mod SessionsPromise
