@@ -1,5 +1,5 @@
 -- The worked examples of steps.
-use Rattle.std.proofs.Common.{◌≡◌, ◌≢◌, ◌∷◌, [], Option, Some, None, Err, Result, refl, sym, ◌∙◌, subst, inr, ⊎_elim, arith}
+use Rattle.std.proofs.Common.{◌≡◌, ◌≢◌, ◌∷◌, [], Option, Some, None, Result, refl, sym, ◌∙◌, subst, inr, ⊎_elim, arith}
 use Rattle.std.specs.FinMap.{get}
 use Rattle.std.specs.Prelude.{codes, OnErr}
 use Rattle.std.specs.Str.{chars}
@@ -13,7 +13,7 @@ use Rattle.session_spec.specs.SessionStates.{SessionState}
 use Rattle.session_spec.specs.SessionDoings.{begun, collects, shows_it, stands}
 use Rattle.session_spec.specs.Talks as talks
 use Rattle.session_spec.specs.Talks.{Standing, behind}
-use Rattle.session_spec.specs.WorkedExamples.{FrugalExamples, unlink_of, rest_of}
+use Rattle.session_spec.specs.WorkedExamples.{FrugalExamples, rest_of}
 use Rattle.session_spec.proofs.SessionExamples.{q_not_linked}
 
 other_files : (one other : Option Entry) → one ≡ Some (Stored []) → other ≡ Some (Stored (codes "1")) → one ≢ other

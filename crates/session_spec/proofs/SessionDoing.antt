@@ -1,5 +1,5 @@
 -- What a session does at the lines of an input, however much comes behind them.
-use Rattle.std.proofs.Common.{◌≡◌, ◌≤◌, ◌++◌, [], ℕ, List, length, Option, None, sym, subst, arith}
+use Rattle.std.proofs.Common.{◌≤◌, ◌++◌, [], ℕ, List, length, Option, None, sym, subst, arith}
 use Rattle.std.proofs.lemmas.List.{append-nil}
 use Rattle.std.specs.Prelude.{take, IfSome}
 use Rattle.tree_spec.specs.Limits.{limit_number}
@@ -13,7 +13,6 @@ use Rattle.session_spec.specs.Laws.{DoingsTalk}
 use Rattle.session_spec.specs.Replies as replies
 use Rattle.session_spec.specs.Replies.{Replies}
 use Rattle.session_spec.specs.SessionDoings.{Display, DoesEdit, DoesEdit as does_edit, Done, Does, begun, edits, collects, shows_it, EditsDo, stands, stops, SessionDoes, unshown}
-use Rattle.session_spec.specs.SessionLines.{Rest}
 use Rattle.session_spec.specs.SessionStates.{SessionState, draft_of}
 use Rattle.session_spec.specs.Showings.{Shown}
 use Rattle.session_spec.specs.Talks as talks
@@ -32,23 +31,23 @@ none_done told taken spent = if_all told (λ tree. nothing_done tree taken spent
 -- ---- what is replied
 
 pub does_replies : (state : SessionState) (edit : List Change) (before after : Display) (next : SessionState) (line : List ℕ) (showings : List (List Shown)) → DoesEdit state edit before after next line showings → Replies state edit next line
-does_replies state edit before after _ _ _ (does_edit.accepted next line is shows) = replies_accepted state next edit line is
-does_replies state edit before after _ _ _ (does_edit.refused line is shows) = replies.refused (edited (draft_of state) edit) line is
+does_replies state edit before after _ _ _ (does_edit.accepted next line is displays) = replies_accepted state next edit line is
+does_replies state edit before after _ _ _ (does_edit.refused line is displays) = replies.refused (edited (draft_of state) edit) line is
 
 pub doings_talk : DoingsTalk
-doings_talk first input _ opened _ _ begun = still (talks.begun first input)
-doings_talk first input _ opened _ _ (edits at text so_far edit rest next line spent display showings goes is frugal does) =
+doings_talk first input opened _ _ _ begun = still (talks.begun first input)
+doings_talk first input opened _ _ _ (edits at text so_far edit rest next line spent display showings goes is frugal does) =
     let later = behind at next None rest in
-    talks_then (talks.begun first input) at later text line (doings_talk first input text opened so_far at goes)
+    talks_then (talks.begun first input) at later text line (doings_talk first input opened at text so_far goes)
     (subst (λ (t : List ℕ). Talks at t later) (append-nil line) (talks.edits at later edit rest next line [] is (does_replies at.state edit so_far.display display next line showings does) (still later)))
-doings_talk first input _ opened _ _ (collects at text done held rest goes is) =
+doings_talk first input opened _ _ _ (collects at text done held rest goes is) =
     let later = behind at at.state (Option.Some held) rest in
     subst (λ (t : List ℕ). Talks (talks.begun first input) t later) (append-nil text)
-    (talks_then (talks.begun first input) at later text [] (doings_talk first input text opened done at goes) (talks.collects at later held rest [] is (still later)))
-doings_talk first input _ opened _ _ (shows_it at text done rest goes is) =
+    (talks_then (talks.begun first input) at later text [] (doings_talk first input opened at text done goes) (talks.collects at later held rest [] is (still later)))
+doings_talk first input opened _ _ _ (shows_it at text done rest goes is) =
     let later = behind at at.state None rest in
     let line = map_reply at.state.map in
-    talks_then (talks.begun first input) at later text line (doings_talk first input text opened done at goes)
+    talks_then (talks.begun first input) at later text line (doings_talk first input opened at text done goes)
     (subst (λ (t : List ℕ). Talks at t later) (append-nil line) (talks.shows_it at later rest [] is (still later)))
 
 -- ---- more input

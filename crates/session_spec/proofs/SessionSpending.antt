@@ -1,5 +1,5 @@
 -- The edits that the lines of an input make, however much comes behind them.
-use Rattle.std.proofs.Common.{◌≡◌, ◌≤◌, ◌++◌, [], ℕ, List, length, Option, Some, None, sym, subst, arith}
+use Rattle.std.proofs.Common.{◌≤◌, ◌++◌, [], ℕ, List, length, Option, None, sym, subst, arith}
 use Rattle.std.proofs.lemmas.List.{append-nil}
 use Rattle.std.specs.Prelude.{◌+◌, ◌*◌, take}
 use Rattle.tree_spec.specs.Limits.{limit_number}

@@ -1,12 +1,10 @@
 -- A session that ends as it must keeps its promises.
-use Rattle.std.proofs.Common.{◌≡◌, ◌≢◌, ◌≤◌, ◌⊎◌, ◌++◌, [], ◌∷◌, ℕ, List, Option, Some, None, refl, sym, ap, ◌∙◌, subst, inl, inr, arith}
-use Rattle.std.proofs.lemmas.List.{append-nil}
+use Rattle.std.proofs.Common.{◌≡◌, ◌≢◌, ◌≤◌, ◌⊎◌, ◌++◌, [], ◌∷◌, ℕ, List, Option, Some, None, refl, sym, ◌∙◌, subst, inl, inr, arith}
 use Rattle.std.specs.List.{concat}
-use Rattle.std.specs.Prelude.{IfSome, option_map}
+use Rattle.std.specs.Prelude.{IfSome}
 use Rattle.tree_spec.specs.Counts.{Rose}
 use Rattle.tree_spec.specs.States.{FolderState, SourceState, SinkState}
 use Rattle.tree_spec.specs.Trees.{Tree}
-use Rattle.tree_spec.proofs.ToldStates.{if_two}
 use Rattle.generator_spec.specs.declared.Refusal.{Refusal}
 use Rattle.generator_spec.specs.Ending.{CanRefuse, Ends, Gives}
 use Rattle.generator_spec.specs.Ending as ending
@@ -14,9 +12,9 @@ use Rattle.generator_spec.specs.Ending.{Shaped as shaped, Says as says}
 use Rattle.generator_spec.specs.Lines.{status_of, line_of, memory_line}
 use Rattle.generator_spec.specs.Statuses.{LeavesTree}
 use Rattle.generator_spec.proofs.Endings.{end_statuses, end_read, end_write}
-use Rattle.session_spec.specs.Laws.{BeginsWith, SessionsKeepPromises}
+use Rattle.session_spec.specs.Laws.{SessionsKeepPromises}
 use Rattle.session_spec.specs.Openings.{refresh_words}
-use Rattle.session_spec.specs.SessionPromises.{AreQuiet, Gave, LacksMemory, Answered, ShowsFaults, SessionPromises}
+use Rattle.session_spec.specs.SessionPromises.{AreQuiet, Gave, Answered, ShowsFaults}
 use Rattle.session_spec.specs.SessionRuns as runs
 use Rattle.session_spec.specs.SessionRuns.{SessionComesTo, RepliesTo, NoFault, IsAnswerShaped, IsRefusalShaped, IsSessionShaped, SessionSays, SessionStops, SessionEnds}
 use Rattle.session_spec.specs.TakenInput.{IsFront, Takes}

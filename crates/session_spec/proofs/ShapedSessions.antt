@@ -6,7 +6,6 @@ use Rattle.tree_spec.specs.Trees.{Tree}
 use Rattle.tree_spec.specs.declared.LimitName.TheVariants.{Session}
 use Rattle.trace_spec.proofs.RefusalKinds.{refuses_by_kind}
 use Rattle.trace_spec.specs.Modules.{Config}
-use Rattle.config_spec.proofs.Configs.{configs_are_judged}
 use Rattle.config_spec.proofs.ConfigsFit.{configs_are_projects}
 use Rattle.config_spec.proofs.FaultsOfWords.{faults_are_of_words}
 use Rattle.config_spec.proofs.WordsJudged.{words_are_judged}

@@ -219,7 +219,7 @@ OneSession =
 -- what a session does at the lines of an input goes with what it replies to them
 abbrev pub DoingsTalk : Type 0
 DoingsTalk =
-    (first : SessionState) (input text : List ℕ) (opened done : Done) (at : Standing)
+    (first : SessionState) (input : List ℕ) (opened : Done) (at : Standing) (text : List ℕ) (done : Done)
     → Does first input opened at text done → Talks (begun first input) text at
 
 -- own: some text and status

@@ -8,7 +8,7 @@
 --     IsAnswerShaped replied status text      status and text belong together, whatever the folder tells, of a session
 --                                     that is opened; replied: all that is said before the last line
 --     IsRefusalShaped status text     and of one that isn't
---     IsSessionShaped source taken later replied status text      either is so, and no take is made for a session that
+--     IsSessionShaped source taken later front status text        either is so, and no take is made for a session that
 --                                     isn't opened
 --     IsFrontShaped source taken later text   the line of an opening and then any replies; or nothing is said, and no
 --                                     take is made
@@ -127,11 +127,11 @@ pub record IsClosed (source : SourceState) (taken : List ℕ) (later : SourceSta
   pub nothing : replied ≡ []
 
 abbrev pub IsSessionShaped : SourceState → List ℕ → SourceState → List ℕ → ℕ → List ℕ → Type 0
-IsSessionShaped source taken later replied status text =
-    IsAnswerShaped replied status text ⊎ (IsClosed source taken later replied × IsRefusalShaped status text)
+IsSessionShaped source taken later front status text =
+    IsAnswerShaped front status text ⊎ (IsClosed source taken later front × IsRefusalShaped status text)
 
 abbrev pub IsFrontShaped : SourceState → List ℕ → SourceState → List ℕ → Type 0
-IsFrontShaped source taken later replied = IsOpenedText replied ⊎ IsClosed source taken later replied
+IsFrontShaped source taken later front = IsOpenedText front ⊎ IsClosed source taken later front
 
 -- own: the session says what is defined, and no fault was counted; or there is want of memory, or a fault that was
 -- counted, behind the line of the opening and whole replies, or behind nothing. Where a take fails, no line in the

@@ -42,7 +42,6 @@ use Rattle.session_spec.specs.SessionDoings.{Done, EditsDo}
 use Rattle.session_spec.specs.SessionLines.{changes, begins, commits, shows_map, ends_session, Rest}
 use Rattle.session_spec.specs.SessionLines.{reads, malformed, unfinished, read_line}
 use Rattle.session_spec.specs.SessionStates.{Counts, SessionState}
-use Rattle.session_spec.specs.SessionSteps.{EditsSpend}
 
 abbrev pub put_of : ℕ → List ℕ
 put_of count = codes "put /lib " ++ (decimal count ++ (10 ∷ []))
