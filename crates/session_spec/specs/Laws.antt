@@ -1,7 +1,7 @@
 -- The laws of sessions. Each is the contract of a function of this crate.
 use Rattle.std.specs.FinMap.{get}
 use Rattle.std.specs.Prelude.{◌≡◌, ◌≤◌, ◌<◌, ◌⊎◌, ◌++◌, ◌∷◌, [], ⊤, ℕ, true, List, length, flat_map}
-use Rattle.std.specs.Prelude.{Option, Some, Ok, Err, All}
+use Rattle.std.specs.Prelude.{Bool, Option, Some, Ok, Err, All}
 use Rattle.tree_spec.specs.Limits.{limit_number}
 use Rattle.tree_spec.specs.Paths.{IsPath}
 use Rattle.tree_spec.specs.States.{FolderState, SourceState, SinkState}
@@ -17,7 +17,7 @@ use Rattle.session_spec.specs.Conversations.{Answers, ends, refuses, stops, end_
 use Rattle.session_spec.specs.EditFaults.{CanRefuseEdit}
 use Rattle.session_spec.specs.Edits.{Draft, can_put, put_file, edited, then_edited}
 use Rattle.session_spec.specs.Replies.{IsRefused, Replies, IsAccepted, Leads, AllAccepted}
-use Rattle.session_spec.specs.SessionDoings.{Done, Does}
+use Rattle.session_spec.specs.SessionDoings.{Done, Does, anew_of, IsOpening}
 use Rattle.session_spec.specs.SessionLooks.{IsTried, IsSessionLook}
 use Rattle.session_spec.specs.Openings.{OpensAt, CanOpen}
 use Rattle.session_spec.specs.SessionPromises.{SessionPromises}
@@ -221,6 +221,19 @@ abbrev pub DoingsTalk : Type 0
 DoingsTalk =
     (first : SessionState) (input : List ℕ) (opened : Done) (at : Standing) (text : List ℕ) (done : Done)
     → Does first input opened at text done → Talks (begun first input) text at
+
+-- own: between two edits at which another graph is begun lie so many others, and so many come before the first
+pub record AreRare (some : ℕ) (anew : List Bool) : Type 0 where
+  pub first : (front back : List Bool) → anew ≡ front ++ true ∷ back → some ≤ length front
+  pub between :
+      (front middle back : List Bool) → anew ≡ front ++ true ∷ (middle ++ true ∷ back) → some ≤ length middle
+
+-- among any 200,000 edits in a row another graph is begun at one at most, and at none of the first 200,000
+abbrev pub RenewalsAreRare : Type 0
+RenewalsAreRare =
+    (first : SessionState) (input : List ℕ) (opened : Done) (at : Standing) (text : List ℕ) (done : Done)
+    → IsOpening first opened → (does : Does first input opened at text done)
+    → AreRare 200000 (anew_of first input opened at text done does)
 
 -- own: some text and status
 pub record HasSession (tree : Tree) (input : List ℕ) : Type 0 where

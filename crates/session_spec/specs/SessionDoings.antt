@@ -1,8 +1,8 @@
 -- What a session does beside what it replies. own.
 --     SeesMore before showings after  what was seen, where it is told, has these showings more
 --     Display                         what is shown of the modules, and how many places their graph has
---     BeginsAnew before after         another graph is begun, since the places of this one and the modules of a trace
---                                     may reach the most
+--     GraphGoes state next before after       the same graph goes on; or another one is begun, since the places of this
+--                                     one, those that an edit makes and the modules of a trace may reach the most
 --     ShowsNext state next before after       the modules of the next state are shown
 --     ShowsSame before after          what is shown stays
 --     DoesEdit state edit before after next line showings     an edit that is replied to so shows this
@@ -10,12 +10,15 @@
 --     Done                            the steps that were taken, what is shown, and what was shown behind the opening,
 --                                     one after another
 --     Does first input opened at text done    a session that began so stands there, replied this text and did this
+--     anew_of first input opened at text done does            at which of its edits it began another graph, one after
+--                                     another
 --     EditsDo first input opened text spent showings          so it is somewhere, or while an edit is made to which the
 --                                     input comes
 --     IsOpening first opened          what is shown at the opening
 --     SessionDoes tree taken before text after showings       a session on this tree that said this took its steps for
 --                                     the opening and these edits, as far as the limit allows, and showed this
-use Rattle.std.specs.Prelude.{◌≡◌, ◌≤◌, ◌⊎◌, ◌+◌, ◌++◌, ◌∷◌, [], ℕ, List, take, Option, Some, None, option_map}
+use Rattle.std.specs.Prelude.{◌≡◌, ◌≤◌, ◌+◌, ◌++◌, ◌∷◌, [], ℕ, List, take, Option, Some, None, option_map}
+use Rattle.std.specs.Prelude.{Bool, true, false}
 use Rattle.tree_spec.specs.Limits.{limit_number}
 use Rattle.tree_spec.specs.Trees.{Tree}
 use Rattle.tree_spec.specs.declared.LimitName.TheVariants.{Modules, Session}
@@ -41,14 +44,16 @@ pub record Display : Type 0 where
   pub made : ℕ
   pub shown : List Shown
 
-pub record BeginsAnew (before after : ℕ) : Type 0 where
-  pub full : most_made ≤ before + limit_number Modules
-  pub few : after ≤ made_at_once
+-- own: while it goes on, no slot stands for two modules
+pub data GraphGoes (state next : SessionState) (before after : Display) : Type 0 where
+  goes_on : KeepsSlots state.tree before.shown next.tree after.shown → GraphGoes state next before after
+  begins_anew :
+      most_made ≤ before.made + made_at_once + limit_number Modules → after.made ≤ made_at_once
+      → GraphGoes state next before after
 
--- own: no slot stands for two modules, unless another graph was begun
 pub record ShowsNext (state next : SessionState) (before after : Display) : Type 0 where
   pub is_of : IsShowingOf next.tree next.config after.shown
-  pub slots : KeepsSlots state.tree before.shown next.tree after.shown ⊎ BeginsAnew before.made after.made
+  pub graph : GraphGoes state next before after
   pub few : after.made ≤ before.made + made_at_once
 
 pub record ShowsSame (before after : Display) : Type 0 where
@@ -101,6 +106,28 @@ pub data Does (first : SessionState) (input : List ℕ) (opened : Done) : Standi
       (at : Standing) (text : List ℕ) (done : Done) (rest : Rest) → Does first input opened at text done
       → turn_of at ≡ shows rest
       → Does first input opened (behind at at.state None rest) (text ++ map_reply at.state.map) done
+
+abbrev pub is_anew : (state next : SessionState) (before after : Display) → GraphGoes state next before after → Bool
+is_anew state next before after (goes_on keeps) = false
+is_anew state next before after (begins_anew full few) = true
+
+abbrev pub anew_at :
+    (state : SessionState) (edit : List Change) (before after : Display) (next : SessionState) (line : List ℕ)
+    (showings : List (List Shown)) → DoesEdit state edit before after next line showings → Bool
+anew_at state edit before after _ _ _ (accepted next line is displays) = is_anew state next before after displays.graph
+anew_at state edit before after _ _ _ (refused line is displays) = false
+
+abbrev pub anew_of :
+    (first : SessionState) (input : List ℕ) (opened : Done) (at : Standing) (text : List ℕ) (done : Done)
+    → Does first input opened at text done → List Bool
+anew_of first input opened _ _ _ begun = []
+anew_of first input opened _ _ _
+    (edits at text so_far edit rest next line spent display showings goes is frugal does) =
+    anew_of first input opened at text so_far goes
+    ++ anew_at at.state edit so_far.display display next line showings does ∷ []
+anew_of first input opened _ _ _ (collects at text done held rest goes is) =
+    anew_of first input opened at text done goes
+anew_of first input opened _ _ _ (shows_it at text done rest goes is) = anew_of first input opened at text done goes
 
 -- own: an edit may end the session by a fault or for want of memory, and then nothing is replied to it
 pub data EditsDo (first : SessionState) (input : List ℕ) (opened : Done) :
