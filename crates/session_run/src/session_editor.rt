@@ -18,8 +18,7 @@ pub(crate) struct SessionEditor<'a, 'b, 'c, 'd, F: Folder, W: Watch, L: Ledger> 
 }
 
 impl<'a, 'b, 'c, 'd, F: Folder, W: Watch, L: Ledger> Editor
-    for SessionEditor<'a, 'b, 'c, 'd, F, W, L>
-{
+    for SessionEditor<'a, 'b, 'c, 'd, F, W, L> {
     ghost use Rattle.std.specs.Prelude.{[], ◌∷◌};
     ghost use Rattle.session_run.specs.Editing.{IsViewOf, look_state};
 
@@ -30,7 +29,14 @@ impl<'a, 'b, 'c, 'd, F: Folder, W: Watch, L: Ledger> Editor
         ∷ editor.watch.ghost_name ∷ editor.steps.ghost_name ∷ []) (F.state editor.folder.now) editor.session.now };
 
     fn edit(&mut self, alloc: Global, edit: &Listed<Change>) -> Result<Bytes, EditorFault> {
-        make_edit(alloc, self.session, edit, self.folder, self.watch, self.steps)
+        make_edit(
+            alloc,
+            self.session,
+            edit,
+            self.folder,
+            self.watch,
+            self.steps,
+        )
     }
 
     fn map(&self) -> &[u8] {
