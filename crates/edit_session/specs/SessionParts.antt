@@ -1,6 +1,6 @@
 -- What an edit is made from, and what it makes.
---     Parts                           what is known, the config, the map, and the answers that are kept
---     parts known config generated answers      those of a session
+--     Parts                           what is known, the config, the map, the answers that are kept, and what is shown
+--     parts known config generated answers shown      those of a session
 --     parts_of session                the same
 --     IsPartsOf tree parts state      the tree stands behind them, and this is their state
 --     pending_over over made          what is pending, where these are the looks of the edit
@@ -8,6 +8,7 @@
 use Rattle.std.specs.Prelude.{Result, Ok, Err}
 use Rattle.tree_spec.specs.Trees.{Tree}
 use Rattle.trace_spec.specs.Modules.{Config}
+use Rattle.trace_graph.specs.Links.{Links}
 use Rattle.package_lookup.specs.declared.known.Known.{Known}
 use Rattle.package_lookup.specs.declared.over.Over.{Over}
 use Rattle.package_lookup.specs.LaidTrees.{StandsBehind}
@@ -26,13 +27,14 @@ pub record Parts : Type 0 where
   pub config : Config
   pub generated : Generated
   pub answers : TraceAnswers
+  pub shown : Links
 
-abbrev pub parts : Known → Config → Generated → TraceAnswers → Parts
-parts known config generated answers =
-    record { known = known; config = config; generated = generated; answers = answers }
+abbrev pub parts : Known → Config → Generated → TraceAnswers → Links → Parts
+parts known config generated answers shown =
+    record { known = known; config = config; generated = generated; answers = answers; shown = shown }
 
 abbrev pub parts_of : Session → Parts
-parts_of session = parts session.known session.config session.generated session.answers
+parts_of session = parts session.known session.config session.generated session.answers session.shown
 
 pub record IsPartsOf (tree : Tree) (own : Parts) (state : SessionState) : Type 0 where
   pub stands : StandsBehind tree own.known
@@ -40,7 +42,8 @@ pub record IsPartsOf (tree : Tree) (own : Parts) (state : SessionState) : Type 0
   pub answers : AreAnswersOf own.answers.kept state.tree state.config
 
 abbrev pub pending_over : Over → Made → Pending
-pending_over over made = record { over = over; entries = made.entries; generated = made.generated }
+pending_over over made =
+    record { over = over; entries = made.entries; generated = made.generated; plan = made.plan }
 
 abbrev pub result_over : Over → Result Made EditStop → Result Pending EditStop
 result_over over (Ok made) = Ok (pending_over over made)

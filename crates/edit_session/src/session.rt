@@ -1,15 +1,19 @@
-ghost use Rattle.std.specs.Prelude.{◌≡◌, None, Some, true, is_some, IfSome};
+ghost use Rattle.std.specs.Prelude.{◌≡◌, None, Some, true, is_some, All, IfSome};
 ghost use Rattle.request_trace.specs.Tracing.{TakesSteps};
 ghost use Rattle.kept_trace.specs.Ready.{IsEmptyUnder};
+ghost use Rattle.trace_graph.specs.Links.{IsLive};
 ghost use Rattle.edit_session.specs.Agreement.{AgreeBut, next_over};
+ghost use Rattle.edit_session.specs.Shown.{IsPlan, HasPlan};
 
 use crate::entries::Entries;
 use crate::looks::Looks;
 use crate::made::Made;
-use crate::mapping::map_again;
+use crate::mapping::{Mapped, map_again};
+use crate::showing::show;
 use crate::steps::{next, step};
 use crate::stop::EditStop;
 use generation::{Generated, Stop};
+use graph_repair::{Plan, ShownGraph, Slot, View};
 use kept_trace::TraceAnswers;
 use package_lookup::{Known, Over};
 use request_trace::Config;
@@ -32,8 +36,8 @@ pub struct Counts {
 }
 
 /// A map that is kept current: the config, what was seen of the folder, what edits laid over it, the map that is
-/// generated for these, and the answers of its trace, by which the next one is made; and beside them what an edit that
-/// is prepared would make of them.
+/// generated for these, the answers of its trace, by which the next one is made, and the trace's modules; and beside
+/// them what an edit that is prepared would make of them.
 #[derive(Drop)]
 pub struct Session {
     known: Known,
@@ -41,12 +45,15 @@ pub struct Session {
     generated: Generated,
     // Those of the map's trace; and those of the trace behind what is pending, if a map is.
     answers: TraceAnswers,
+    // The modules of the map's trace.
+    shown: ShownGraph,
     pending: Option<Prepared>,
     // Looks for the next edit, unless what is pending has them; and the paths at which they may be others than those
     // that are laid.
     spare: Over,
     changed: Vec<Path>,
     ghost agree: { AgreeBut changed.items known.laid (next_over spare pending) },
+    ghost planned: { HasPlan shown pending },
 }
 
 /// What an edit that is prepared makes of a session.
@@ -58,12 +65,14 @@ pub(crate) enum Prepared {
     Changed { pending: Pending },
 }
 
-/// What an edit makes of a session: other looks that are laid, other entries, and the map for them.
+/// What an edit makes of a session: other looks that are laid, other entries, the map for them, and the
+/// plan to show its modules.
 #[derive(Drop)]
 pub(crate) struct Pending {
     pub(crate) over: Over,
     pub(crate) entries: Entries,
     pub(crate) generated: Generated,
+    pub(crate) plan: Plan,
 }
 
 impl Session {
@@ -108,10 +117,21 @@ impl Session {
     {
         let mut answers = answers;
         let mut known = Known::new(alloc);
-        match map_again(alloc, &mut answers, folder, &mut known, &config, steps) {
+        let mut shown = ShownGraph::new(alloc);
+        match map_again(
+            alloc,
+            &mut answers,
+            &mut shown,
+            folder,
+            &mut known,
+            &config,
+            steps,
+        ) {
             Err(stop) => Err(stop),
-            Ok(generated) => {
+            Ok(mapped) => {
+                let Mapped { generated, plan } = mapped;
                 answers.exchange();
+                show(&mut shown, plan);
                 let spare = Over::new(alloc);
                 let changed = Vec::new(alloc);
                 Ok(Session {
@@ -119,6 +139,7 @@ impl Session {
                     config,
                     generated,
                     answers,
+                    shown,
                     pending: None,
                     spare,
                     changed,
@@ -152,6 +173,7 @@ impl Session {
         match next(
             alloc,
             &mut self.answers,
+            &mut self.shown,
             &mut looks,
             &mut self.config,
             edit,
@@ -175,6 +197,7 @@ impl Session {
         ensures config { self.new.config ≡ self.old.config }
         ensures generated { self.new.generated ≡ self.old.generated }
         ensures answers { self.new.answers ≡ self.old.answers }
+        ensures shown { self.new.shown ≡ self.old.shown }
         ensures pending { self.new.pending ≡ None }
     {
         let spare = mem::replace(&mut self.spare, Over::new(alloc));
@@ -208,6 +231,7 @@ impl Session {
         ensures config { self.new.config ≡ self.old.config }
         ensures generated { self.new.generated ≡ self.old.generated }
         ensures answers { self.new.answers ≡ self.old.answers }
+        ensures shown { self.new.shown ≡ self.old.shown }
         ensures pending { self.new.pending ≡ None }
     {
         let Looks {
@@ -226,6 +250,7 @@ impl Session {
         ensures config { self.new.config ≡ self.old.config }
         ensures generated { self.new.generated ≡ self.old.generated }
         ensures answers { self.new.answers ≡ self.old.answers }
+        ensures shown { self.new.shown ≡ self.old.shown }
         ensures pending { self.new.pending ≡ Some Same }
     {
         self.put_back(looks);
@@ -233,10 +258,12 @@ impl Session {
     }
 
     fn put_pending(&mut self, looks: Looks, made: Made)
+        requires { IsPlan self.old.shown made.plan }
         ensures known { self.new.known ≡ looks.known }
         ensures config { self.new.config ≡ self.old.config }
         ensures generated { self.new.generated ≡ self.old.generated }
         ensures answers { self.new.answers ≡ self.old.answers }
+        ensures shown { self.new.shown ≡ self.old.shown }
         ensures pending { self.new.pending ≡ Some (Changed (pending_over looks.over made)) }
     {
         let Looks {
@@ -244,13 +271,18 @@ impl Session {
             over,
             changed,
         } = looks;
-        let Made { entries, generated } = made;
+        let Made {
+            entries,
+            generated,
+            plan,
+        } = made;
         self.known = known;
         self.changed = changed;
         let pending = Pending {
             over,
             entries,
             generated,
+            plan,
         };
         self.pending = Some(Prepared::Changed { pending });
     }
@@ -268,6 +300,7 @@ impl Session {
                 &mut self.config,
                 &mut self.generated,
                 &mut self.answers,
+                &mut self.shown,
                 &mut self.spare,
                 pending,
             ),
@@ -286,6 +319,22 @@ impl Session {
         ensures { result.now ≡ shown_map self.now }
     {
         self.generated.map.as_slice()
+    }
+
+    /// The modules of the map's trace, as a graph: each has one slot, and each of their requests has the slot of the
+    /// module to which it leads. An edit that is prepared isn't seen in it.
+    pub fn view(&self) -> View<'_>
+        ensures { result ≡ self.now.shown.graph }
+    {
+        self.shown.view()
+    }
+
+    /// The slots of these modules, in trace order.
+    pub fn slots(&self) -> &[Slot]
+        ensures slots { result.now ≡ self.now.shown.slots }
+        ensures live { All (IsLive self.now.shown.graph) self.now.shown.slots }
+    {
+        self.shown.slots()
     }
 
     /// What is told of the map.

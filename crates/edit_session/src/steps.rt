@@ -6,6 +6,7 @@ ghost use Rattle.request_trace.specs.Tracing.{StepsByFresh, TakesSteps};
 ghost use Rattle.kept_trace.specs.Ready.{AreAllRight, is_anew};
 ghost use Rattle.session_spec.specs.SessionStates.{config_with};
 ghost use Rattle.edit_session.specs.SessionTrees.{steps_of};
+ghost use Rattle.edit_session.specs.Shown.{IsPlan};
 ghost use Rattle.edit_session.specs.Trying.{IfLaid};
 ghost use Rattle.edit_session.specs.SessionParts.{parts, result_over};
 ghost use Rattle.edit_session.specs.Steps.{MakesNext, GeneratesNext, IsStep, TakesFreshOf};
@@ -14,9 +15,12 @@ use crate::changes::make_all;
 use crate::entries::Entries;
 use crate::looks::Looks;
 use crate::made::Made;
+use crate::mapping::Mapped;
 use crate::session::{Edit, Pending};
+use crate::showing::show;
 use crate::stop::EditStop;
 use generation::Generated;
+use graph_repair::ShownGraph;
 use kept_trace::TraceAnswers;
 use package_lookup::{Known, Over};
 use request_trace::Config;
@@ -29,6 +33,7 @@ use tree_model::Folder;
 pub(crate) fn next<F: Folder, L: Ledger>(
     alloc: Global,
     answers: &mut TraceAnswers,
+    shown: &mut ShownGraph,
     looks: &mut Looks,
     config: &mut Config,
     edit: &Edit,
@@ -36,16 +41,16 @@ pub(crate) fn next<F: Folder, L: Ledger>(
     steps: &mut Steps<L>,
 ) -> Result<Made, EditStop>
     ensures makes { (generated : Generated) → MakesNext (F.state folder.old)
-        (parts looks.old.known config.old generated answers.old) edit.now (result_over looks.new.over result)
-        (F.state folder.new) (parts looks.new.known config.new generated answers.new) }
+        (parts looks.old.known config.old generated answers.old shown.old) edit.now (result_over looks.new.over result)
+        (F.state folder.new) (parts looks.new.known config.new generated answers.new shown.new) }
     ensures config { config.new ≡ config.old }
     ensures steps { TakesSteps result (λ made. steps_of made.generated) steps.old steps.new }
     ensures fresh { (generated : Generated) → TakesFreshOf (F.state folder.old)
-        (parts looks.old.known config.old generated answers.old) edit.now steps.old steps.new }
+        (parts looks.old.known config.old generated answers.old shown.old) edit.now steps.old steps.new }
 {
     match draft(alloc, looks, config) {
         Err(_) => Err(EditStop::Memory),
-        Ok(entries) => make(alloc, answers, looks, config, entries, edit, folder, steps),
+        Ok(entries) => make(alloc, answers, shown, looks, config, entries, edit, folder, steps),
     }
 }
 
@@ -64,6 +69,7 @@ fn draft(alloc: Global, looks: &mut Looks, config: &Config) -> Result<Entries, M
 fn make<F: Folder, L: Ledger>(
     alloc: Global,
     answers: &mut TraceAnswers,
+    shown: &mut ShownGraph,
     looks: &mut Looks,
     config: &mut Config,
     entries: Entries,
@@ -74,17 +80,17 @@ fn make<F: Folder, L: Ledger>(
     requires over { (path : List ℕ) → over_at looks.old.over path ≡ over_at looks.old.known.laid path }
     requires entries { entries ≡ config.old.entries }
     ensures makes { (generated : Generated) → MakesNext (F.state folder.old)
-        (parts looks.old.known config.old generated answers.old) edit.now (result_over looks.new.over result)
-        (F.state folder.new) (parts looks.new.known config.new generated answers.new) }
+        (parts looks.old.known config.old generated answers.old shown.old) edit.now (result_over looks.new.over result)
+        (F.state folder.new) (parts looks.new.known config.new generated answers.new shown.new) }
     ensures config { config.new ≡ config.old }
     ensures steps { TakesSteps result (λ made. steps_of made.generated) steps.old steps.new }
     ensures fresh { (generated : Generated) → TakesFreshOf (F.state folder.old)
-        (parts looks.old.known config.old generated answers.old) edit.now steps.old steps.new }
+        (parts looks.old.known config.old generated answers.old shown.old) edit.now steps.old steps.new }
 {
     let mut entries = entries;
     match make_all(alloc, looks, &mut entries, folder, edit.as_slice()) {
         Err(stop) => Err(EditStop::of_change(stop)),
-        Ok(()) => generate(alloc, answers, looks, config, entries, folder, steps),
+        Ok(()) => generate(alloc, answers, shown, looks, config, entries, folder, steps),
     }
 }
 
@@ -92,6 +98,7 @@ fn make<F: Folder, L: Ledger>(
 fn generate<F: Folder, L: Ledger>(
     alloc: Global,
     answers: &mut TraceAnswers,
+    shown: &mut ShownGraph,
     looks: &mut Looks,
     config: &mut Config,
     entries: Entries,
@@ -99,9 +106,9 @@ fn generate<F: Folder, L: Ledger>(
     steps: &mut Steps<L>,
 ) -> Result<Made, EditStop>
     ensures generates { (generated : Generated) → GeneratesNext (F.state folder.old)
-        (parts looks.old.known config.old generated answers.old) looks.old.over entries
+        (parts looks.old.known config.old generated answers.old shown.old) looks.old.over entries
         (result_over looks.new.over result) (F.state folder.new)
-        (parts looks.new.known config.new generated answers.new) }
+        (parts looks.new.known config.new generated answers.new shown.new) }
     ensures config { config.new ≡ config.old }
     ensures steps { TakesSteps result (λ made. steps_of made.generated) steps.old steps.new }
     ensures fresh { IfLaid (AreAllRight answers.old.kept) (F.state folder.old) looks.old.known looks.old.over
@@ -109,31 +116,41 @@ fn generate<F: Folder, L: Ledger>(
         steps.old steps.new) }
 {
     let mut entries = entries;
-    let found = looks.try_map(alloc, answers, config, &mut entries, folder, steps);
+    let found = looks.try_map(alloc, answers, shown, config, &mut entries, folder, steps);
     match found {
         Err(stop) => Err(EditStop::of_map(stop)),
-        Ok(generated) => Ok(Made { entries, generated }),
+        Ok(mapped) => {
+            let Mapped { generated, plan } = mapped;
+            Ok(Made {
+                entries,
+                generated,
+                plan,
+            })
+        }
     }
 }
 
 /// What is pending takes the place of what was, the looks that were laid that of the spare ones, and the answers of the
-/// trace behind what is pending that of those that were kept.
+/// trace behind what is pending that of those that were kept; its modules are shown.
 pub(crate) fn step(
     known: &mut Known,
     config: &mut Config,
     generated: &mut Generated,
     answers: &mut TraceAnswers,
+    shown: &mut ShownGraph,
     spare: &mut Over,
     pending: Pending,
 )
-    ensures step { IsStep (parts known.old config.old generated.old answers.old) pending
-        (parts known.new config.new generated.new answers.new) }
+    requires { IsPlan shown.old pending.plan }
+    ensures step { IsStep (parts known.old config.old generated.old answers.old shown.old) pending
+        (parts known.new config.new generated.new answers.new shown.new) }
     ensures spare { spare.new ≡ known.old.laid }
 {
     let Pending {
         over,
         entries,
         generated: map,
+        plan,
     } = pending;
     let mut over = over;
     let mut entries = entries;
@@ -141,5 +158,6 @@ pub(crate) fn step(
     entries.exchange(config);
     *generated = map;
     answers.exchange();
+    show(shown, plan);
     *spare = over;
 }
