@@ -1,16 +1,16 @@
 -- Two traces that are shown one after another.
 --     same_at, there_at      two lists, one place after another
 --     slots_last             what is in both has one slot
-use Rattle.std.proofs.Common.{◌≡◌, ◌⊎◌, ◌≤◌, ◌<◌, ◌+◌, ℕ, zero, suc, List, [], ◌∷◌, length, map, get_or, Option, Some, None, refl, sym, ap, ◌∙◌, subst, inl, inr, arith}
-use Rattle.std.specs.Prelude.{All, slice_get}
+use Rattle.std.proofs.Common.{◌≡◌, ◌⊎◌, ◌≤◌, ◌<◌, ◌+◌, ℕ, zero, suc, List, [], ◌∷◌, length, map, get_or, Option, Some, None, sym, ap, ◌∙◌, subst, inl, inr, arith}
+use Rattle.std.specs.Prelude.{slice_get}
 use Rattle.std.proofs.lemmas.Option.{slice_get_within, slice_get-get_or}
 use Rattle.slot_arena.specs.Slots.{Place, value_at, IsGiven}
 use Rattle.slot_arena.specs.declared.slot.Slot.{Slot}
 use Rattle.slot_arena.proofs.SlotLaws.{is_given}
 use Rattle.module_graph.specs.declared.module.Module as vertex
 use Rattle.trace_graph.specs.Links.{Links, IsLinked, IsLive, module_in, source_in, modules_of}
-use Rattle.graph_repair.specs.Matching.{AreOnce, missing, filled, IsAlike, AreKept}
-use Rattle.graph_repair.specs.Neighbours.{LastsBetween, SlotsLast}
+use Rattle.graph_repair.specs.Matching.{AreOnce, filled, IsAlike, AreKept}
+use Rattle.graph_repair.specs.Neighbours.{SlotsLast}
 use Rattle.graph_repair.specs.Repairs.{Repairs, Lasts, most_made}
 use Rattle.graph_repair.proofs.Filling.{missing_few}
 use Rattle.graph_repair.proofs.Joining.{kept_count}
