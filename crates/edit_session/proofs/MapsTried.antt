@@ -1,14 +1,13 @@
 -- A generation over looks that are laid for it.
 use Rattle.std.proofs.Common.{◌≡◌, ℕ, List, Some, Result, Ok, Err, IfSome, sym, ap, ◌∙◌, subst}
 use Rattle.std.specs.FinMap.{get}
-use Rattle.std.specs.Prelude.{IfOk}
+use Rattle.std.specs.Prelude.{OnOk}
 use Rattle.tree_spec.specs.LookAskings.{Sights}
 use Rattle.tree_spec.specs.LookLimits.{no_trail}
 use Rattle.tree_spec.specs.States.{FolderState}
 use Rattle.tree_spec.specs.Trees.{Tree}
 use Rattle.trace_spec.specs.Laws.{IsLookedAt}
 use Rattle.trace_spec.specs.Modules.{Config}
-use Rattle.trace_graph.specs.Links.{Links}
 use Rattle.config_spec.specs.declared.Command.{Command}
 use Rattle.config_spec.specs.declared.Command.TheVariants.{Refresh}
 use Rattle.generator_spec.specs.Commands.{IsGenerating, Opens, Refuses, nothing, refresh}
@@ -28,8 +27,7 @@ use Rattle.session_spec.specs.SessionStates.{config_with, IsGenerated}
 use Rattle.edit_session.specs.LooksOn.{LooksOn}
 use Rattle.edit_session.specs.SessionTrees.{counts_in}
 use Rattle.edit_session.specs.Mapping.{GeneratesIf, IfKnown, IsKeptFor}
-use Rattle.edit_session.specs.Shown.{TracedSo, PlansFor}
-use Rattle.edit_session.specs.declared.mapping.Mapped.{Mapped}
+use Rattle.edit_session.specs.Shown.{Shows, TracedSo, PlansFor}
 use Rattle.edit_session.specs.Trying.{IfLaid, TriesMap}
 use Rattle.edit_session.proofs.LookedOn.{some_told, laid_back, stands_same}
 use Rattle.edit_session.proofs.MapsAgain.{learns_if, looks_if}
@@ -82,12 +80,12 @@ module _ (right : Type 0) (before after : FolderState) (known under learnt later
       → IfLaid right before known over (IsKeptFor kept (config_with config entries) next)
   keeps_so kept next is = laid_so (IsKeptFor kept (config_with config entries) next) is
 
-  pub plans_laid : (shown : Links) (result : Result Mapped Stop)
-      → IfOk result (λ found. PlansFor (IfKnown right before under) (config_with config entries) shown found.plan)
-      → IfOk result (λ found. PlansFor (IfLaid right before known over) (config_with config entries) shown found.plan)
-  plans_laid shown (Err stop) is = tt
-  plans_laid shown (Ok mapped) is =
-      plans_as (IfKnown right before under) (IfLaid right before known over) (config_with config entries) shown mapped.plan
+  pub plans_laid : {A : Type 0} (now : Shows) (result : Result A Stop)
+      → OnOk result (PlansFor (IfKnown right before under) (config_with config entries) now)
+      → OnOk result (PlansFor (IfLaid right before known over) (config_with config entries) now)
+  plans_laid now (Err stop) is = tt
+  plans_laid now (Ok found) is =
+      plans_as (IfKnown right before under) (IfLaid right before known over) (config_with config entries) now
       (λ l so. laid_so (λ seen. TracedSo seen (config_with config entries) l) so) is
 
   pub fresh_so : (is_fresh : Freshness) (from to : ℕ)

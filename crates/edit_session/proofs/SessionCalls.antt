@@ -2,7 +2,7 @@
 use Rattle.std.proofs.Common.{◌≡◌, ◌++◌, [], ℕ, List, Option, Some, None, Result, Ok, Err, IfSome, refl, sym, ap, ◌∙◌, subst, arith, inl, inr, append-nil}
 use Rattle.std.specs.FinMap.{get}
 use Rattle.std.specs.HashMap as map
-use Rattle.std.specs.Prelude.{◌==◌, ◌≤◌, ◌∷◌, All, true, false, is_some, bytes_eq, length, ⊤}
+use Rattle.std.specs.Prelude.{◌==◌, ◌≤◌, ◌⊎◌, ◌∷◌, All, true, false, is_some, bytes_eq, length, ⊤}
 use Rattle.std.proofs.lemmas.Bool.{true≢false}
 use Rattle.std.proofs.lemmas.Bool.Decides.{Decides-eqb}
 use Rattle.std.proofs.lemmas.List.{append_cancel_left}
@@ -49,8 +49,8 @@ use Rattle.edit_session.specs.Mapping.{IsKeptFor}
 use Rattle.edit_session.specs.NewLooks.{AsksNew, AsksKept, LooksNew}
 use Rattle.session_spec.specs.Showings.{IsShowingOf, KeepsSlots, made_at_once}
 use Rattle.session_watch.specs.Seen.{showing_of}
-use Rattle.edit_session.specs.SessionTrees.{counts_in, IsSessionOf, IsPendingOf, IsStateThen, ShowsThen, kept_then}
-use Rattle.edit_session.specs.Shown.{KeepsShown, TracedSo, IsShownOf, IsPlan, PlansFor, IsNextShown}
+use Rattle.edit_session.specs.SessionTrees.{counts_in, shown_in, showing_in, IsSessionOf, IsPendingOf, IsStateThen, ShowsThen, kept_then}
+use Rattle.edit_session.specs.Shown.{Shows, KeepsShown, TracedSo, IsShownOf, HasPlan, PlansFor, IsNextShown}
 use Rattle.edit_session.specs.Sessions.{IsOpened, OpensSession, IfRefused, StopsEdit, Accepts, Prepares, BecomesBy, Commits}
 use Rattle.session_spec.specs.Frugality.{IsFrugal}
 use Rattle.edit_session.specs.Steps.{MakesNext, IsStep, TakesFreshOf}
@@ -90,7 +90,7 @@ changed_same made pending changed same = (let no : Some (Changed made) ≡ Some 
 
 pub session_by : (tree : Tree) (old new : Session) (known : StandsBehind tree old.known → StandsBehind tree new.known)
     → new.known.laid ≡ old.known.laid → new.config ≡ old.config → new.generated ≡ old.generated
-    → new.answers.kept ≡ old.answers.kept → ShowsSame old.shown new.shown → (state : SessionState) → IsSessionOf tree old state
+    → new.answers.kept ≡ old.answers.kept → ShowsSame (shown_in old) (shown_in new) → (state : SessionState) → IsSessionOf tree old state
     → IsSessionOf tree new state
 session_by tree old new behind laid config generated answers shown state is = record {
   stands = behind is.stands;
@@ -103,8 +103,8 @@ session_by tree old new behind laid config generated answers shown state is = re
   };
   current = is.current;
   answers = subst (λ (kept : Kept). AreAnswersOf kept state.tree state.config) (sym answers) is.answers;
-  shows = subst (IsShowingOf state.tree state.config) (sym (showing_same old.shown new.shown shown)) is.shows;
-  sources = λ all traced_so. sources_same old.shown new.shown shown ∙ is.sources all traced_so;
+  shows = subst (IsShowingOf state.tree state.config) (sym (showing_same (shown_in old) (shown_in new) shown)) is.shows;
+  sources = λ all traced_so. sources_same (shown_in old) (shown_in new) shown ∙ is.sources all traced_so;
 }
 
 -- the line of an edit that isn't prepared
@@ -171,7 +171,7 @@ module _ (before after : FolderState) (old : Session) (mid : Parts) (edit : List
         (λ stands. subst (StandsBehind tree) (sym known) (is.looks.behind tree e stands))
         (ap (λ (k : Known). k.laid) known ∙ is.looks.laid) (config ∙ is.same.config) (generated ∙ is.same.generated)
         (ap (λ (a : TraceAnswers). a.kept) answers ∙ is.same.answers)
-        (subst (ShowsSame old.shown) (sym shown) is.shown.same) state there)
+        (subst (λ (s : Shows). ShowsSame (shown_in old) s.links) (sym shown) is.shown.same) state there)
 
   why_so : (why : EditStop)
       → ((tree : Tree) (state : SessionState) → before.holds ≡ Some tree → IsPartsOf tree (parts_of old) state → StopsEdit state edit why)
@@ -211,7 +211,7 @@ module _ (before after : FolderState) (old : Session) (mid : Parts) (edit : List
       refused = refusal_so why (why_so why is.refused);
       why = why_so why is.refused;
       kind = is.kind;
-      shown = subst (KeepsShown old.shown) (sym shown) is.shown;
+      shown = subst (λ (s : Shows). KeepsShown (shown_in old) s.links) (sym shown) is.shown;
       stays = stays_so (next_stops why) is new known config generated answers shown;
       pending = tt;
       nothing_pending = none;
@@ -247,7 +247,7 @@ module _ (before after : FolderState) (old : Session) (mid : Parts) (edit : List
               current = leads.accepted.current;
               answers = subst (λ (a : TraceAnswers). AreAnswersOf a.next leads.next.tree leads.next.config) (sym answers)
                   leads.answers;
-              shows = subst (λ (s : Links). PlansFor (λ P. P leads.next.tree) leads.next.config s pending.plan) (sym shown)
+              shows = subst (PlansFor (λ P. P leads.next.tree) leads.next.config) (sym shown)
                   leads.plans;
             };
             accepted = leads.accepted;
@@ -255,7 +255,7 @@ module _ (before after : FolderState) (old : Session) (mid : Parts) (edit : List
       refused = tt;
       why = tt;
       kind = tt;
-      shown = subst (KeepsShown old.shown) (sym shown) is.shown;
+      shown = subst (λ (s : Shows). KeepsShown (shown_in old) s.links) (sym shown) is.shown;
       stays = stays_so (next_leads pending) is new known config generated answers shown;
       pending = ap is_some there;
       nothing_pending = tt;
@@ -270,7 +270,7 @@ module _ (before : FolderState) (old new : Session) (known : new.known ≡ old.k
   same_session tree state is =
       session_by tree old new (λ stands. subst (StandsBehind tree) (sym known) stands) (ap (λ (k : Known). k.laid) known)
       config generated (ap (λ (a : TraceAnswers). a.kept) answers)
-      (subst (ShowsSame old.shown) (sym shown) (sames_itself old.shown)) state is
+      (subst (λ (s : Shows). ShowsSame (shown_in old) s.links) (sym shown) (sames_itself (shown_in old))) state is
 
   accepts_same : new.pending ≡ Some Same → (tree : Tree) (state : SessionState) → IsSessionOf tree old state
       → Accepts tree state [] new
@@ -301,7 +301,7 @@ module _ (before : FolderState) (old new : Session) (known : new.known ≡ old.k
   prepared_same there = record {
     config = config;
     generated = generated;
-    shown = subst (KeepsShown old.shown) (sym shown) (keeps_itself old.shown);
+    shown = subst (λ (s : Shows). KeepsShown (shown_in old) s.links) (sym shown) (keeps_itself (shown_in old));
     looks = looks_same (all_done ≡ Err ReadFault) (all_done ≡ Err Memory) (λ e. absurd (cc));
     accepted = all_told (λ tree. (state : SessionState) → IsSessionOf tree old state → Accepts tree state [] new)
         before.holds (λ tree e. accepts_same there tree);
@@ -330,20 +330,27 @@ same_prepared one other there e f =
 -- what is shown then
 module _ (old new : Session) (pending : Pending) (there : old.pending ≡ Some (Changed pending)) where
   plans_next : (tree : Tree) (next : SessionState) (is_next : IsPendingOf tree old next)
-      → PlansFor (λ P. P next.tree) next.config old.shown pending.plan
+      → PlansFor (λ P. P next.tree) next.config old.shown
   plans_next tree next is_next =
       subst (λ (p : Prepared). ShowsThen old p next)
       (same_prepared is_next.prepared (Changed pending) old.pending is_next.is_there there) is_next.shows
 
   shown_next : IsStep (parts_of old) pending (parts_of new) → (tree : Tree) (next : SessionState) (is_next : IsPendingOf tree old next)
-      → IsShownOf next.tree next.config new.shown
+      → IsShownOf next.tree next.config (shown_in new)
   shown_next step tree next is_next =
       let plans = plans_next tree next is_next in
-      shown_then (λ P. P next.tree) next.config old.shown new.shown pending.plan plans step.shown next.tree plans.traced_so
+      shown_then (λ P. P next.tree) next.config old.shown (shown_in new) plans (step.shown plans.plan plans.is_there) next.tree
+      plans.traced_so
+
+places_by : (now : Shows) (new : Links) (plan : Option Plan) → HasPlan now.links plan → is_some plan ≡ true
+    → ((p : Plan) → plan ≡ Some p → IsNextShown now.links p new)
+    → (length new.graph ≡ length now.links.graph) ⊎ (length new.graph ≤ made_at_once)
+places_by now new None is has next = absurd (true≢false (sym has))
+places_by now new (Some plan) is has next = places_then now.links new plan is (next plan refl)
 
 pub committed : (old new : Session) (pending : Pending) → old.pending ≡ Some (Changed pending) → new.pending ≡ None
-    → IsPlan old.shown pending.plan → IsStep (parts_of old) pending (parts_of new) → Commits old new
-committed old new pending there none plan step = record {
+    → HasPlan (shown_in old) old.shown.plan → is_some old.shown.plan ≡ true → IsStep (parts_of old) pending (parts_of new) → Commits old new
+committed old new pending there none plan has step = record {
   becomes = λ tree state next is is_next.
       (let same : is_next.prepared ≡ Changed pending =
       same_prepared is_next.prepared (Changed pending) old.pending is_next.is_there there in
@@ -367,10 +374,10 @@ committed old new pending there none plan step = record {
         sources = (shown_next old new pending there step tree next is_next).sources;
       });
   slots = λ tree state next is is_next.
-      next_showing old.shown new.shown state.tree next.tree state.config next.config pending.plan
+      next_showing old.shown (shown_in new) state.tree next.tree state.config next.config
       (record { shows = is.shows; sources = is.sources }) is.current.generates.all is.current.generates.is_traced
       (plans_next old pending there tree next is_next) is_next.current.generates.all is_next.current.generates.is_traced
-      step.shown;
+      (step.shown (plans_next old pending there tree next is_next).plan (plans_next old pending there tree next is_next).is_there);
   steps = λ other e.
       subst (λ (p : Prepared). BecomesBy old p new) (same_prepared (Changed pending) other old.pending there e)
       (record {
@@ -378,7 +385,7 @@ committed old new pending there none plan step = record {
         config = step.config;
         generated = step.generated;
         shown = step.shown;
-        places = places_then old.shown new.shown pending.plan plan step.shown;
+        places = places_by old.shown (shown_in new) old.shown.plan plan has step.shown;
       });
   kept = λ path. ap (λ kept. map.get bytes_eq kept path) step.kept;
   nothing_pending = none;
@@ -393,7 +400,7 @@ committed_same old new there none known config generated answers shown = record 
       subst (λ (p : Prepared). IsStateThen tree old p next) same is_next.is_state in
       session_by tree old new (λ stands. subst (StandsBehind tree) (sym known) stands) (ap (λ (k : Known). k.laid) known)
       config generated (ap (λ (a : TraceAnswers). a.kept) answers)
-      (subst (ShowsSame old.shown) (sym shown) (sames_itself old.shown)) next
+      (subst (λ (s : Shows). ShowsSame (shown_in old) s.links) (sym shown) (sames_itself (shown_in old))) next
       (record {
         stands = is.stands;
         is_state = then;
@@ -403,14 +410,14 @@ committed_same old new there none known config generated answers shown = record 
         sources = (subst (λ (p : Prepared). ShowsThen old p next) same is_next.shows).sources;
       }));
   slots = λ tree state next is is_next few.
-      subst (KeepsSlots state.tree (showing_of old.shown.graph old.shown.slots) next.tree)
-      (sym (ap (λ (l : Links). showing_of l.graph l.slots) shown))
-      (showing_itself (length state.config.entries) is.current.generates.all (showing_of old.shown.graph old.shown.slots)
+      subst (KeepsSlots state.tree (showing_in old) next.tree)
+      (sym (ap (λ (s : Shows). showing_of s.links.graph s.links.slots) shown))
+      (showing_itself (length state.config.entries) is.current.generates.all (showing_in old)
       (is.shows is.current.generates.all is.current.generates.is_traced)
       (modules_once (get state.tree) state.config is.current.generates.all is.current.generates.is_traced) state.tree next.tree);
   steps = λ other e.
       subst (λ (p : Prepared). BecomesBy old p new) (same_prepared Same other old.pending there e)
-      (record { laid = ap (λ (k : Known). k.laid) known; config = config; generated = generated; shown = shown });
+      (record { laid = ap (λ (k : Known). k.laid) known; config = config; generated = generated; shown = ap (λ (s : Shows). s.links) shown });
   kept = λ path. ap (λ (k : Known). kept_at k path) known;
   nothing_pending = none;
 }
@@ -478,17 +485,17 @@ module _ (config : Config) (before after : FolderState) (known later : Known)
       (map_is : session.generated ≡ found)
       (answers : IfSome before.holds
       (λ tree. IfSeen tree known (λ seen. AreAnswersOf session.answers.kept seen config)))
-      (empty : Links) (nothing : length empty.graph ≡ 0) (grown : Links) (keeps : KeepsShown empty grown) (plan : Plan)
-      (plans : PlansFor (λ P. IfSome before.holds (λ tree. IfSeen tree known P)) config grown plan)
-      (next : IsNextShown grown plan session.shown) where
-    shown_opened : (tree : Tree) → before.holds ≡ Some tree → IsShownOf tree config session.shown
+      (empty : Links) (nothing : length empty.graph ≡ 0) (grown : Shows) (keeps : KeepsShown empty grown.links)
+      (plans : PlansFor (λ P. IfSome before.holds (λ tree. IfSeen tree known P)) config grown)
+      (next : IsNextShown grown.links plans.plan (shown_in session)) where
+    shown_opened : (tree : Tree) → before.holds ≡ Some tree → IsShownOf tree config (shown_in session)
     shown_opened tree e =
-        shown_then (λ P. IfSome before.holds (λ tree. IfSeen tree known P)) config grown session.shown plan plans next tree
+        shown_then (λ P. IfSome before.holds (λ tree. IfSeen tree known P)) config grown (shown_in session) plans next tree
         (in_tree (λ seen. TracedSo seen config plans.links) plans.traced_so tree e)
 
-    few_places : length session.shown.graph ≤ made_at_once
+    few_places : length (shown_in session).graph ≤ made_at_once
     few_places =
-        elim (places_then grown session.shown plan (is_plan (λ P. IfSome before.holds (λ tree. IfSeen tree known P)) config grown plan plans) next) [
+        elim (places_then grown.links (shown_in session) plans.plan (is_plan (λ P. IfSome before.holds (λ tree. IfSeen tree known P)) config grown plans) next) [
           | inl same ↦ (let few = keeps.few in omega (arith, same, few, nothing))
           | inr few ↦ few
         ]

@@ -33,7 +33,7 @@ use Rattle.edit_session.specs.SessionTrees.{counts_in}
 use Rattle.edit_session.specs.Sessions.{StopsEdit, CanStopEdit}
 use Rattle.edit_session.specs.Steps.{LeadsTo, CanLackMap, IsAsBefore, GeneratesNext, MakesNext, TakesFreshOf}
 use Rattle.edit_session.specs.Stopping.{stop_by, stop_for}
-use Rattle.edit_session.specs.Shown.{KeepsShown, TracedSo, PlansFor}
+use Rattle.edit_session.specs.Shown.{Shows, KeepsShown, TracedSo, PlansFor}
 use Rattle.edit_session.specs.Trying.{IfLaid, TriesMap}
 use Rattle.edit_session.specs.SessionParts.{Parts, IsPartsOf}
 use Rattle.edit_session.specs.declared.session.Pending.{Pending}
@@ -44,7 +44,7 @@ use Rattle.edit_session.specs.declared.stop.EditStop.TheVariants.{Change as NoCh
 use Rattle.edit_session.proofs.DraftsMade.{MakesAll}
 use Rattle.edit_session.proofs.FrugalEdits.{frugal}
 use Rattle.edit_session.proofs.LookedOn.{looks_on_then, looks_on_as, looks_on_nothing}
-use Rattle.edit_session.proofs.ShownTraces.{is_plan, keeps_itself, plans_as}
+use Rattle.edit_session.proofs.ShownTraces.{has_plan, keeps_itself, plans_as}
 
 abbrev Next : Type 0
 Next = Result Pending EditStop
@@ -67,7 +67,7 @@ made_stop stop = Err stop
 -- ---- the map for what the changes leave
 
 module _ (before after : FolderState) (old new : Parts) (over left : Over) (entries : List (List ℕ))
-    (same : IsAsBefore old new) (keeps_shown : KeepsShown old.shown new.shown) where
+    (same : IsAsBefore old new) (keeps_shown : KeepsShown old.shown.links new.shown.links) where
   abbrev Right : Type 0
   Right = AreAllRight old.answers.kept
 
@@ -125,7 +125,7 @@ module _ (before after : FolderState) (old new : Parts) (over left : Over) (entr
 
   pub has_next : (pending : Pending) → pending.over ≡ left → pending.entries ≡ entries
       → IfLaid Right before old.known over (IsKeptFor old.answers.kept (config_with old.config entries) new.answers.next)
-      → PlansFor (IfLaid Right before old.known over) (config_with old.config entries) new.shown pending.plan
+      → PlansFor (IfLaid Right before old.known over) (config_with old.config entries) new.shown
       → TriesMap Right before old.known old.config over entries (Ok pending.generated) after new.known left
       → GeneratesNext before old over entries (Ok pending) after new
   has_next pending over_is entries_are keeps plans tries = record {
@@ -146,8 +146,8 @@ module _ (before after : FolderState) (old new : Parts) (over left : Over) (entr
 module _ (before middle : FolderState) (old mid : Parts) (edit : List Change) (over between : Over)
     (entries later_entries : List (List ℕ)) (is_copy : (path : List ℕ) → over_at over path ≡ over_at old.known.laid path)
     (are_copied : entries ≡ old.config.entries) (same : IsAsBefore old mid) (same_shown : mid.shown ≡ old.shown) where
-  keeps_so : KeepsShown old.shown mid.shown
-  keeps_so = subst (KeepsShown old.shown) (sym same_shown) (keeps_itself old.shown)
+  keeps_so : KeepsShown old.shown.links mid.shown.links
+  keeps_so = subst (λ (s : Shows). KeepsShown old.shown.links s.links) (sym same_shown) (keeps_itself old.shown.links)
 
   abbrev first : Work
   first = work before old.known over entries
@@ -277,8 +277,8 @@ module _ (before middle : FolderState) (old mid : Parts) (edit : List Change) (o
         (result ≡ Err Memory) AsksChange AsksMap AsksEdit (λ e. absurd (cc)) (λ e. absurd (cc)) asks_change asks_map
         makes.looks generates.looks
 
-    shown_all : KeepsShown old.shown new.shown
-    shown_all = subst (λ (s : Links). KeepsShown s new.shown) same_shown generates.shown
+    shown_all : KeepsShown old.shown.links new.shown.links
+    shown_all = subst (λ (s : Shows). KeepsShown s.links new.shown.links) same_shown generates.shown
 
     same_all : IsAsBefore old new
     same_all = record {
@@ -325,9 +325,9 @@ module _ (before middle : FolderState) (old mid : Parts) (edit : List Change) (o
               (generates.keeps (right_so makes after new (next_of pending) generates tree state is) tree next.0.tree
               (told_on makes after new (next_of pending) generates tree e) next.2.seen.stands next.2.seen.laid
               (under_so makes after new (next_of pending) generates tree state is));
-          plans = subst (λ (config : Config). PlansFor (λ P. P next.0.tree) config new.shown pending.plan) config_is
+          plans = subst (λ (config : Config). PlansFor (λ P. P next.0.tree) config new.shown) config_is
               (plans_as (IfLaid (AreAllRight mid.answers.kept) middle mid.known between) (λ P. P next.0.tree)
-              (config_with mid.config later_entries) new.shown pending.plan
+              (config_with mid.config later_entries) new.shown
               (λ l so.
               so (right_so makes after new (next_of pending) generates tree state is) tree next.0.tree
               (told_on makes after new (next_of pending) generates tree e) next.2.seen.stands next.2.seen.laid)
@@ -343,8 +343,8 @@ module _ (before middle : FolderState) (old mid : Parts) (edit : List Change) (o
       refused = tt;
       kind = tt;
       shown = shown_all makes after new (next_of pending) generates;
-      has_plan = is_plan (IfLaid (AreAllRight mid.answers.kept) middle mid.known between) (config_with mid.config later_entries)
-          new.shown pending.plan generates.plans;
+      has_plan = has_plan (IfLaid (AreAllRight mid.answers.kept) middle mid.known between) (config_with mid.config later_entries)
+          new.shown generates.plans;
     }
 
     refused_so : (stop : EditStop) → GeneratesNext middle mid between later_entries (Err stop) after new → (tree : Tree)
@@ -396,7 +396,7 @@ lacks_next before old edit = record {
   accepted = tt;
   refused = λ tree state e is. tt;
   kind = tt;
-  shown = keeps_itself old.shown;
+  shown = keeps_itself old.shown.links;
   has_plan = tt;
 }
 

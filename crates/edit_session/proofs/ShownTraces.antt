@@ -4,10 +4,11 @@
 --     showing_same, sources_same           where the same is shown
 --     keeps_itself                         it is kept
 --     shows_trace                          a copy of a trace shows it
---     shown_then                           what was planned is shown
+--     shown_then, places_then              what was planned is shown
+--     plans_as, has_plan, is_plan          a plan
 use Rattle.std.proofs.Common.{◌≡◌, ◌≤◌, ◌<◌, ◌+◌, ◌++◌, ◌⊎◌, ℕ, zero, suc, List, [], ◌∷◌, length, map, drop, Option, Some, None, Ok, refl, sym, ap, ◌∙◌, subst, arith}
 use Rattle.std.specs.FinMap.{get}
-use Rattle.std.specs.Prelude.{◌≢◌, All, flat_map, slice_get, option_map}
+use Rattle.std.specs.Prelude.{◌≢◌, true, is_some, All, flat_map, slice_get, option_map}
 use Rattle.std.proofs.lemmas.List.{length-map}
 use Rattle.std.proofs.lemmas.List.Elements.{All-head, All-tail}
 use Rattle.std.proofs.lemmas.Option.{slice_get-map, slice_get-get_or, slice_get_within, get_or_from_slice_get}
@@ -29,7 +30,7 @@ use Rattle.graph_repair.specs.Repairs.{IsCopyOf, Repairs, ShowsSame, led_by}
 use Rattle.graph_repair.specs.declared.parts.Plan.{Plan}
 use Rattle.session_spec.specs.Showings.{Shown, module_shown, slot_at, ShowsTrace, IsShowingOf, made_at_once}
 use Rattle.session_watch.specs.Seen.{vertex_shown, shown_at, showing_of}
-use Rattle.edit_session.specs.Shown.{KeepsShown, AreLinksOf, TracedSo, HaveSources, IsShownOf, IsPlan, PlansFor, IsNextShown}
+use Rattle.edit_session.specs.Shown.{Shows, KeepsShown, AreLinksOf, TracedSo, HaveSources, IsShownOf, IsPlan, PlansFor, IsNextShown}
 
 abbrev Vertex : Type 0
 Vertex = vertex.Module
@@ -64,15 +65,16 @@ drop_front : {X Y : Type 0} (f : Option X → Y) (xs : List X) (ys : List (Optio
 drop_front f [] ys = refl
 drop_front f (x ∷ xs) ys = drop_front f xs ys
 
+not_there : (slots : List Slot) (j : ℕ) (s t : Slot) → slice_get slots j ≡ Some s → All (λ u. u ≢ t) slots → s ≡ t → ⊥
+not_there slots j s t at all = subst (λ u. u ≢ t) (get_or_from_slice_get slots j s s at) (all j s (slice_get_within slots j s at))
+
 apart_at : (slots : List Slot) → AreApart slots → (i j : ℕ) (s : Slot) → slice_get slots i ≡ Some s → slice_get slots j ≡ Some s → i ≡ j
 apart_at [] apart i j s one other = absurd (let bad : None ≡ Some s = one in cc)
 apart_at (t ∷ slots) apart zero zero s one other = refl
 apart_at (t ∷ slots) apart zero (suc j) s one other =
     absurd (not_there slots j s t other apart.0 (let both : Some t ≡ Some s = one in let is : s ≡ t = cc in is))
-  where
-    not_there : (slots : List Slot) (j : ℕ) (s t : Slot) → slice_get slots j ≡ Some s → All (λ u. u ≢ t) slots → s ≡ t → ⊥
-    not_there slots j s t at all = subst (λ u. u ≢ t) (get_or_from_slice_get slots j s s at) (all j s (slice_get_within slots j s at))
-apart_at (t ∷ slots) apart (suc i) zero s one other = sym (apart_at (t ∷ slots) apart zero (suc i) s other one)
+apart_at (t ∷ slots) apart (suc i) zero s one other =
+    absurd (not_there slots i s t one apart.0 (let both : Some t ≡ Some s = other in let is : s ≡ t = cc in is))
 apart_at (t ∷ slots) apart (suc i) (suc j) s one other = ap (λ n. suc n) (apart_at slots apart.1 i j s one other)
 
 -- ---- what is shown under a slot
@@ -192,9 +194,9 @@ module _ (entries : ℕ) (l new : Links) (all : Gathered) (linked : IsLinked new
 
 -- ---- what was planned
 
-module _ (If : (Tree → Type 0) → Type 0) (config : Config) (old new : Links) (plan : Plan) (plans : PlansFor If config old plan)
-    (next : IsNextShown old plan new) where
-  repairs_then : Repairs plans.made old plans.links new
+module _ (If : (Tree → Type 0) → Type 0) (config : Config) (now : Shows) (new : Links) (plans : PlansFor If config now)
+    (next : IsNextShown now.links plans.plan new) where
+  repairs_then : Repairs plans.made now.links plans.links new
   repairs_then = next.repairs plans.made plans.links plans.planned
 
   pub shown_then : (tree : Tree) → TracedSo tree config plans.links → IsShownOf tree config new
@@ -210,10 +212,12 @@ places_then old new plan (made, l, planned) next = (next.repairs made l planned)
 
 -- ---- a plan for something else
 
-pub plans_as : (If Other : (Tree → Type 0) → Type 0) (config : Config) (shown : Links) (plan : Plan)
-    → ((l : Links) → If (λ tree. TracedSo tree config l) → Other (λ tree. TracedSo tree config l)) → PlansFor If config shown plan
-    → PlansFor Other config shown plan
-plans_as If Other config shown plan goes plans = record {
+pub plans_as : (If Other : (Tree → Type 0) → Type 0) (config : Config) (now : Shows)
+    → ((l : Links) → If (λ tree. TracedSo tree config l) → Other (λ tree. TracedSo tree config l)) → PlansFor If config now
+    → PlansFor Other config now
+plans_as If Other config now goes plans = record {
+  plan = plans.plan;
+  is_there = plans.is_there;
   made = plans.made;
   within = plans.within;
   links = plans.links;
@@ -223,6 +227,8 @@ plans_as If Other config shown plan goes plans = record {
   traced_so = goes plans.links plans.traced_so;
 }
 
-pub is_plan : (If : (Tree → Type 0) → Type 0) (config : Config) (shown : Links) (plan : Plan) → PlansFor If config shown plan
-    → IsPlan shown plan
-is_plan If config shown plan plans = (plans.made, plans.links, plans.planned)
+pub has_plan : (If : (Tree → Type 0) → Type 0) (config : Config) (now : Shows) → PlansFor If config now → is_some now.plan ≡ true
+has_plan If config now plans = ap is_some plans.is_there
+
+pub is_plan : (If : (Tree → Type 0) → Type 0) (config : Config) (now : Shows) (plans : PlansFor If config now) → IsPlan now.links plans.plan
+is_plan If config now plans = (plans.made, plans.links, plans.planned)

@@ -2,7 +2,7 @@
 --     shown_there         what is shown at a place
 --     next_showing        what stays in both trees has one slot
 --     showing_itself      where nothing else is shown
-use Rattle.std.proofs.Common.{◌≡◌, ◌<◌, ◌+◌, ℕ, zero, suc, List, [], ◌∷◌, length, map, Option, Some, None, Ok, refl, sym, ap, ◌∙◌, subst, arith}
+use Rattle.std.proofs.Common.{◌≡◌, ◌≤◌, ◌<◌, ◌+◌, ℕ, zero, suc, List, [], ◌∷◌, length, map, Option, Some, None, Ok, refl, sym, ap, ◌∙◌, subst, arith}
 use Rattle.std.specs.FinMap.{get}
 use Rattle.std.specs.Prelude.{All, slice_get, option_map}
 use Rattle.std.proofs.lemmas.List.{length-map}
@@ -30,11 +30,10 @@ use Rattle.trace_graph.specs.Links.{Links, IsLive, module_in, source_in, modules
 use Rattle.graph_repair.specs.Matching.{AreOnce, IsAlike}
 use Rattle.graph_repair.specs.Neighbours.{LastsBetween}
 use Rattle.graph_repair.specs.Repairs.{Repairs}
-use Rattle.graph_repair.specs.declared.parts.Plan.{Plan}
 use Rattle.graph_repair.proofs.Neighbours.{slots_last}
 use Rattle.session_spec.specs.Showings.{Shown, module_shown, slot_at, ShowsTrace, KeepsSlots, NextShowing, most_made}
 use Rattle.session_watch.specs.Seen.{shown_at, showing_of}
-use Rattle.edit_session.specs.Shown.{AreLinksOf, IsShownOf, PlansFor, IsNextShown}
+use Rattle.edit_session.specs.Shown.{Shows, AreLinksOf, IsShownOf, PlansFor, IsNextShown}
 use Rattle.edit_session.proofs.ShownTraces.{module_of_shown, slot_of_shown, modules_shown}
 
 abbrev Vertex : Type 0
@@ -104,10 +103,13 @@ live_at g slots i s at all = subst (IsLive g) (get_or_from_slice_get slots i s s
 
 -- ---- behind a repair
 
-module _ (old new : Links) (tree later : Tree) (config next_config : Config) (plan : Plan) (shown : IsShownOf tree config old)
-    (all : Gathered) (is_all : traced (get tree) config ≡ Ok all) (plans : PlansFor (λ P. P later) next_config old plan)
-    (other : Gathered) (is_other : traced (get later) next_config ≡ Ok other) (next : IsNextShown old plan new)
-    (few : length old.graph + limit_number Modules < most_made) where
+module _ (now : Shows) (new : Links) (tree later : Tree) (config next_config : Config) (shown : IsShownOf tree config now.links)
+    (all : Gathered) (is_all : traced (get tree) config ≡ Ok all) (plans : PlansFor (λ P. P later) next_config now)
+    (other : Gathered) (is_other : traced (get later) next_config ≡ Ok other) (next : IsNextShown now.links plans.plan new)
+    (few : length now.links.graph + limit_number Modules < most_made) where
+  abbrev old : Links
+  old = now.links
+
   links_so : AreLinksOf plans.links other
   links_so = plans.traced_so other is_other
 
@@ -203,12 +205,12 @@ module _ (old new : Links) (tree later : Tree) (config next_config : Config) (pl
         apart_so i j v w (shown_there old.graph old.slots i v at) (shown_there new.graph new.slots j w there);
   }
 
-pub next_showing : (old new : Links) (tree later : Tree) (config next_config : Config) (plan : Plan) → IsShownOf tree config old
-    → (all : Gathered) → traced (get tree) config ≡ Ok all → PlansFor (λ P. P later) next_config old plan
-    → (other : Gathered) → traced (get later) next_config ≡ Ok other → IsNextShown old plan new
-    → NextShowing (length old.graph) tree (showing_of old.graph old.slots) later (showing_of new.graph new.slots)
-next_showing old new tree later config next_config plan shown all is_all plans other is_other next few =
-    keeps_slots old new tree later config next_config plan shown all is_all plans other is_other next few
+pub next_showing : (now : Shows) (new : Links) (tree later : Tree) (config next_config : Config) → IsShownOf tree config now.links
+    → (all : Gathered) → traced (get tree) config ≡ Ok all → (plans : PlansFor (λ P. P later) next_config now)
+    → (other : Gathered) → traced (get later) next_config ≡ Ok other → IsNextShown now.links plans.plan new
+    → NextShowing (length now.links.graph) tree (showing_of now.links.graph now.links.slots) later (showing_of new.graph new.slots)
+next_showing now new tree later config next_config shown all is_all plans other is_other next few =
+    keeps_slots now new tree later config next_config shown all is_all plans other is_other next few
 
 -- ---- where nothing else is shown
 

@@ -1,12 +1,11 @@
 -- A generation by kept answers.
---     map_in result                        the map in what a generation gives, or why there is none
 --     IfKnown right before known P         of the tree that is seen, where what is kept is right
 --     GeneratesIf right config before known result after later      where what is kept is right, what generation gives;
 --                                          and whatever is kept, all that is owed of a folder that tells no tree
 --     IsKeptFor kept config next seen      what is kept next are the answers of the trace of what is seen, if what was
 --                                          kept before was kept under the config's conditions
 --     LeavesAnswers kept config before known next      so it is where what was kept is right
-use Rattle.std.specs.Prelude.{◌≡◌, Result, Ok, Err, IfSome}
+use Rattle.std.specs.Prelude.{◌≡◌, Result, IfSome}
 use Rattle.tree_spec.specs.States.{FolderState}
 use Rattle.tree_spec.specs.Trees.{Tree}
 use Rattle.trace_spec.specs.Modules.{Config}
@@ -20,11 +19,6 @@ use Rattle.generation.specs.Generating.{GeneratingOver, IfSeen}
 use Rattle.generation.specs.declared.generated.Generated.{Generated}
 use Rattle.generation.specs.declared.stop.Stop.{Stop}
 use Rattle.edit_session.specs.KeptAnswers.{AreAnswersOf}
-use Rattle.edit_session.specs.declared.mapping.Mapped.{Mapped}
-
-abbrev pub map_in : Result Mapped Stop → Result Generated Stop
-map_in (Ok mapped) = Ok mapped.generated
-map_in (Err stop) = Err stop
 
 abbrev pub IfKnown : Type 0 → FolderState → Known → (Tree → Type 0) → Type 0
 IfKnown right before known P = right → IfSome before.holds (λ tree. IfSeen tree known P)

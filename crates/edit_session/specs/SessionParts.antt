@@ -8,7 +8,6 @@
 use Rattle.std.specs.Prelude.{Result, Ok, Err}
 use Rattle.tree_spec.specs.Trees.{Tree}
 use Rattle.trace_spec.specs.Modules.{Config}
-use Rattle.trace_graph.specs.Links.{Links}
 use Rattle.package_lookup.specs.declared.known.Known.{Known}
 use Rattle.package_lookup.specs.declared.over.Over.{Over}
 use Rattle.package_lookup.specs.LaidTrees.{StandsBehind}
@@ -17,6 +16,7 @@ use Rattle.kept_trace.specs.declared.kept.TraceAnswers.{TraceAnswers}
 use Rattle.session_spec.specs.SessionStates.{SessionState}
 use Rattle.edit_session.specs.KeptAnswers.{AreAnswersOf}
 use Rattle.edit_session.specs.SessionTrees.{IsStateOf}
+use Rattle.edit_session.specs.Shown.{Shows}
 use Rattle.edit_session.specs.declared.made.Made.{Made}
 use Rattle.edit_session.specs.declared.session.Pending.{Pending}
 use Rattle.edit_session.specs.declared.session.Session.{Session}
@@ -27,9 +27,9 @@ pub record Parts : Type 0 where
   pub config : Config
   pub generated : Generated
   pub answers : TraceAnswers
-  pub shown : Links
+  pub shown : Shows
 
-abbrev pub parts : Known → Config → Generated → TraceAnswers → Links → Parts
+abbrev pub parts : Known → Config → Generated → TraceAnswers → Shows → Parts
 parts known config generated answers shown =
     record { known = known; config = config; generated = generated; answers = answers; shown = shown }
 
@@ -42,8 +42,7 @@ pub record IsPartsOf (tree : Tree) (own : Parts) (state : SessionState) : Type 0
   pub answers : AreAnswersOf own.answers.kept state.tree state.config
 
 abbrev pub pending_over : Over → Made → Pending
-pending_over over made =
-    record { over = over; entries = made.entries; generated = made.generated; plan = made.plan }
+pending_over over made = record { over = over; entries = made.entries; generated = made.generated }
 
 abbrev pub result_over : Over → Result Made EditStop → Result Pending EditStop
 result_over over (Ok made) = Ok (pending_over over made)

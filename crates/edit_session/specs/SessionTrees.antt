@@ -1,6 +1,7 @@
 -- What a session holds, as a state of `session_spec`.
 --     counts_in generated, counts_told told   the counts that go with a generation, and those that a caller gets
 --     shown_map, shown_counts session         the bytes of its map, and the counts that go with it
+--     shown_in session, showing_in session    the graph that it shows, and what is shown there
 --     steps_of generated                      how many steps a generation may take
 --     pending_steps session                   how many what is pending may have taken
 --     IsStateOf tree over config generated state      the state that these make over a tree
@@ -12,12 +13,13 @@
 use Rattle.std.specs.Prelude.{◌≡◌, ◌+◌, ℕ, List, Option, Some, None}
 use Rattle.tree_spec.specs.Trees.{Tree, IsTree}
 use Rattle.trace_spec.specs.Modules.{Config}
+use Rattle.trace_graph.specs.Links.{Links}
 use Rattle.package_lookup.specs.declared.over.Over.{Over}
 use Rattle.package_lookup.specs.LaidTrees.{StandsBehind, IsLaid}
 use Rattle.generation.specs.declared.generated.Generated.{Generated}
 use Rattle.session_spec.specs.SessionStates.{Counts, SessionState, config_with, IsCurrent}
 use Rattle.kept_trace.specs.declared.kept.Kept.{Kept}
-use Rattle.session_spec.specs.Showings.{IsShowingOf}
+use Rattle.session_spec.specs.Showings.{Shown, IsShowingOf}
 use Rattle.session_watch.specs.Seen.{showing_of}
 use Rattle.edit_session.specs.KeptAnswers.{AreAnswersOf}
 use Rattle.edit_session.specs.Shown.{HaveSources, IsShownOf, PlansFor}
@@ -38,6 +40,12 @@ shown_map session = session.generated.map.items
 
 abbrev pub shown_counts : Session → Counts
 shown_counts session = counts_in session.generated
+
+abbrev pub shown_in : Session → Links
+shown_in session = session.shown.links
+
+abbrev pub showing_in : Session → List Shown
+showing_in session = showing_of (shown_in session).graph (shown_in session).slots
 
 -- own: one for each module and for each request
 abbrev pub steps_of : Generated → ℕ
@@ -67,8 +75,8 @@ pub record IsSessionOf (tree : Tree) (session : Session) (state : SessionState) 
   pub is_state : IsStateOf tree session.known.laid session.config session.generated state
   pub current : IsCurrent state
   pub answers : AreAnswersOf session.answers.kept state.tree state.config
-  pub shows : IsShowingOf state.tree state.config (showing_of session.shown.graph session.shown.slots)
-  pub sources : HaveSources state.tree state.config session.shown
+  pub shows : IsShowingOf state.tree state.config (showing_in session)
+  pub sources : HaveSources state.tree state.config (shown_in session)
 
 -- own: of the config an edit changes nothing but the entries
 abbrev pub IsStateThen : Tree → Session → Prepared → SessionState → Type 0
@@ -82,8 +90,8 @@ kept_then session Same = session.answers.kept
 kept_then session (Changed pending) = session.answers.next
 
 abbrev pub ShowsThen : Session → Prepared → SessionState → Type 0
-ShowsThen session Same next = IsShownOf next.tree next.config session.shown
-ShowsThen session (Changed pending) next = PlansFor (λ P. P next.tree) next.config session.shown pending.plan
+ShowsThen session Same next = IsShownOf next.tree next.config (shown_in session)
+ShowsThen session (Changed pending) next = PlansFor (λ P. P next.tree) next.config session.shown
 
 pub record IsPendingOf (tree : Tree) (session : Session) (next : SessionState) : Type 0 where
   pub prepared : Prepared

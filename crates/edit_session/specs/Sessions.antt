@@ -28,11 +28,11 @@ use Rattle.session_spec.specs.EditLooks.{IsEditLook}
 use Rattle.session_spec.specs.Edits.{Draft, edited}
 use Rattle.session_spec.specs.Replies.{IsRefused, IsAccepted, fault_line}
 use Rattle.session_spec.specs.SessionStates.{SessionState, draft_of, config_with}
+use Rattle.graph_repair.specs.declared.parts.Plan.{Plan}
 use Rattle.session_spec.specs.Showings.{NextShowing, made_at_once}
-use Rattle.session_watch.specs.Seen.{showing_of}
 use Rattle.edit_session.specs.NewLooks.{AsksKept, LooksNew}
 use Rattle.edit_session.specs.Shown.{KeepsShown, IsNextShown}
-use Rattle.edit_session.specs.SessionTrees.{IsSessionOf, IsPendingOf}
+use Rattle.edit_session.specs.SessionTrees.{IsSessionOf, IsPendingOf, shown_in, showing_in}
 use Rattle.edit_session.specs.declared.session.Pending.{Pending}
 use Rattle.edit_session.specs.declared.session.Prepared.{Prepared}
 use Rattle.edit_session.specs.declared.session.Prepared.TheVariants.{Same, Changed}
@@ -55,7 +55,7 @@ pub record OpensSession (config : Config) (before : FolderState) (result : Resul
   pub page : IfOk result (λ session. PageIsFile config)
   pub nothing_laid : IfOk result (λ session. (path : List ℕ) → laid_at session.known path ≡ None)
   pub nothing_pending : IfOk result (λ session. session.pending ≡ None)
-  pub places : IfOk result (λ session. length session.shown.graph ≤ made_at_once)
+  pub places : IfOk result (λ session. length (shown_in session).graph ≤ made_at_once)
   pub refused :
       IfErr result (generating.IfRefused (λ why. IfSome before.holds (λ tree. Refuses tree config Refresh why)))
   pub kind : IfErr result (generating.IfRefused (λ why. IsRefusalOf config Refresh why))
@@ -105,7 +105,7 @@ pub record Prepares (before : FolderState) (old : Session) (edit : List Change) 
     (after : FolderState) (new : Session) : Type 0 where
   pub config : new.config ≡ old.config
   pub generated : new.generated ≡ old.generated
-  pub shown : KeepsShown old.shown new.shown
+  pub shown : KeepsShown (shown_in old) (shown_in new)
   pub looks :
       LooksNew before old.known after new.known (result ≡ Err ReadFault) (result ≡ Err Memory)
       (λ path. IfSome before.holds
@@ -135,16 +135,16 @@ pub record StepsTo (old : Session) (pending : Pending) (new : Session) : Type 0 
   pub laid : new.known.laid ≡ pending.over
   pub config : new.config ≡ config_with old.config pending.entries
   pub generated : new.generated ≡ pending.generated
-  pub shown : IsNextShown old.shown pending.plan new.shown
+  pub shown : (plan : Plan) → old.shown.plan ≡ Some plan → IsNextShown (shown_in old) plan (shown_in new)
   pub places :
-      (length new.shown.graph ≡ length old.shown.graph) ⊎ (length new.shown.graph ≤ made_at_once)
+      (length (shown_in new).graph ≡ length (shown_in old).graph) ⊎ (length (shown_in new).graph ≤ made_at_once)
 
 -- own: laid looks, entries, map, counts and what is shown stay
 pub record StaysAs (old new : Session) : Type 0 where
   pub laid : new.known.laid ≡ old.known.laid
   pub config : new.config ≡ old.config
   pub generated : new.generated ≡ old.generated
-  pub shown : new.shown ≡ old.shown
+  pub shown : shown_in new ≡ shown_in old
 
 abbrev pub BecomesBy : Session → Prepared → Session → Type 0
 BecomesBy old Same new = StaysAs old new
@@ -156,8 +156,7 @@ pub record Commits (old new : Session) : Type 0 where
       → IsSessionOf tree new next
   pub slots :
       (tree : Tree) (state next : SessionState) → IsSessionOf tree old state → IsPendingOf tree old next
-      → NextShowing (length old.shown.graph) state.tree (showing_of old.shown.graph old.shown.slots) next.tree
-      (showing_of new.shown.graph new.shown.slots)
+      → NextShowing (length (shown_in old).graph) state.tree (showing_in old) next.tree (showing_in new)
   pub steps : (prepared : Prepared) → old.pending ≡ Some prepared → BecomesBy old prepared new
   pub kept : (path : List ℕ) → kept_at new.known path ≡ kept_at old.known path
   pub nothing_pending : new.pending ≡ None

@@ -5,9 +5,11 @@
 --     HaveSources tree config shown   the modules that are shown have the sources of this trace
 --     IsShownOf tree config shown     the modules of this trace are shown, with their sources
 --     IsPlan shown plan               the plan is one for what is shown
---     HasPlan shown pending           where a map is pending, so is its plan
---     PlansFor If config shown plan   the plan is one for what is shown, and for the trace of the tree of which `If`
---                                     speaks; when it was made, there weren't more places
+--     Shows                           what is shown, and the plan to show something else, if one is made
+--     HasPlan shown plan              if there is a plan, it is one for what is shown
+--     IsPlannedBy made trace now      so it is planned, where there were so many places before
+--     PlansFor If config now          the plan is one for the trace of the tree of which `If` speaks; when it was made,
+--                                     there weren't more places
 --     IsNextShown old plan new        what is shown then
 use Rattle.std.specs.Prelude.{◌≡◌, ◌≤◌, ◌+◌, ⊤, ℕ, List, length, Option, Some, None, Ok}
 use Rattle.std.specs.FinMap.{get}
@@ -18,12 +20,12 @@ use Rattle.trace_spec.specs.Traces.{traced}
 use Rattle.module_graph.specs.Graphs.{AreModules}
 use Rattle.trace_graph.specs.Links.{Links, IsLinked, modules_of, sources_of, targets_of}
 use Rattle.graph_repair.specs.Plans.{IsPlanned}
+use Rattle.request_trace.specs.Showing as tracing
+use Rattle.request_trace.specs.Showing.{Traced}
 use Rattle.graph_repair.specs.Repairs.{Repairs, ShowsSame}
 use Rattle.graph_repair.specs.declared.parts.Plan.{Plan}
 use Rattle.session_spec.specs.Showings.{IsShowingOf, made_at_once}
 use Rattle.session_watch.specs.Seen.{showing_of}
-use Rattle.edit_session.specs.declared.session.Prepared.{Prepared}
-use Rattle.edit_session.specs.declared.session.Prepared.TheVariants.{Same, Changed}
 
 pub record KeepsShown (old new : Links) : Type 0 where
   pub same : ShowsSame old new
@@ -49,16 +51,28 @@ pub record IsShownOf (tree : Tree) (config : Config) (shown : Links) : Type 0 wh
 abbrev pub IsPlan : Links → Plan → Type 0
 IsPlan shown plan = (made : ℕ) × (l : Links) × IsPlanned made shown l plan
 
-abbrev pub HasPlan : Links → Option Prepared → Type 0
-HasPlan shown None = ⊤
-HasPlan shown (Some Same) = ⊤
-HasPlan shown (Some (Changed pending)) = IsPlan shown pending.plan
-
-pub record PlansFor (If : (Tree → Type 0) → Type 0) (config : Config) (shown : Links) (plan : Plan) : Type 0 where
-  pub made : ℕ
-  pub within : made ≤ length shown.graph
+pub record Shows : Type 0 where
   pub links : Links
-  pub planned : IsPlanned made shown links plan
+  pub plan : Option Plan
+
+abbrev pub HasPlan : Links → Option Plan → Type 0
+HasPlan shown None = ⊤
+HasPlan shown (Some plan) = IsPlan shown plan
+
+pub record IsPlannedBy (made : ℕ) (trace : Traced) (now : Shows) : Type 0 where
+  pub plan : Plan
+  pub is_there : now.plan ≡ Some plan
+  pub planned : IsPlanned made now.links trace.links plan
+  pub shows : tracing.Shows trace
+  pub linked : IsLinked trace.links
+
+pub record PlansFor (If : (Tree → Type 0) → Type 0) (config : Config) (now : Shows) : Type 0 where
+  pub plan : Plan
+  pub is_there : now.plan ≡ Some plan
+  pub made : ℕ
+  pub within : made ≤ length now.links.graph
+  pub links : Links
+  pub planned : IsPlanned made now.links links plan
   pub linked : IsLinked links
   pub entries : length links.roots ≡ length config.entries
   pub traced_so : If (λ tree. TracedSo tree config links)

@@ -1,10 +1,10 @@
-ghost use Rattle.std.specs.Prelude.{◌≡◌, List, ℕ, Ok, IfOk, OnOk};
+ghost use Rattle.std.specs.Prelude.{◌≡◌, List, ℕ, Ok, OnOk};
 ghost use Rattle.kept_trace.specs.Ready.{AreAllRight, is_anew};
 ghost use Rattle.std.specs.FinMap.{get};
 ghost use Rattle.package_lookup.specs.Looked.{over_at, Puts};
 ghost use Rattle.request_trace.specs.Tracing.{StepsByFresh, TakesSteps};
 ghost use Rattle.session_spec.specs.SessionStates.{config_with};
-ghost use Rattle.edit_session.specs.Mapping.{IsKeptFor, map_in};
+ghost use Rattle.edit_session.specs.Mapping.{IsKeptFor};
 ghost use Rattle.edit_session.specs.Shown.{KeepsShown, PlansFor};
 ghost use Rattle.edit_session.specs.SessionTrees.{steps_of};
 ghost use Rattle.edit_session.specs.Agreement.{AgreeBut};
@@ -13,11 +13,10 @@ ghost use Rattle.edit_session.specs.declared.standing.Standing.TheVariants.{Noth
 ghost use Rattle.edit_session.specs.Trying.{IfLaid, TriesMap};
 
 use crate::entries::Entries;
-use crate::mapping::Mapped;
+use crate::showing::Showing;
 use crate::standing::{Standing, standing_of};
 use crate::trying::try_map;
-use generation::Stop;
-use graph_repair::ShownGraph;
+use generation::{Generated, Stop};
 use kept_trace::TraceAnswers;
 use package_lookup::{Known, Over, Trail};
 use request_trace::Config;
@@ -86,26 +85,26 @@ impl Looks {
         &mut self,
         alloc: Global,
         answers: &mut TraceAnswers,
-        shown: &mut ShownGraph,
+        shown: &mut Showing,
         config: &mut Config,
         entries: &mut Entries,
         folder: &mut F,
         steps: &mut Steps<L>,
-    ) -> Result<Mapped, Stop>
+    ) -> Result<Generated, Stop>
         ensures tries { TriesMap (AreAllRight answers.old.kept) (F.state folder.old) self.old.known config.old
-            self.old.over entries.old (map_in result) (F.state folder.new) self.new.known self.new.over }
+            self.old.over entries.old result (F.state folder.new) self.new.known self.new.over }
         ensures config { config.new ≡ config.old }
         ensures entries { entries.new ≡ entries.old }
-        ensures steps { TakesSteps (map_in result) steps_of steps.old steps.new }
+        ensures steps { TakesSteps result steps_of steps.old steps.new }
         ensures fresh { IfLaid (AreAllRight answers.old.kept) (F.state folder.old) self.old.known self.old.over
             (λ seen. StepsByFresh (is_anew answers.old.kept) (get seen) (config_with config.old entries.old)
             steps.old steps.new) }
         ensures kept { answers.new.kept ≡ answers.old.kept }
         ensures keeps { OnOk result (IfLaid (AreAllRight answers.old.kept) (F.state folder.old) self.old.known
             self.old.over (IsKeptFor answers.old.kept (config_with config.old entries.old) answers.new.next)) }
-        ensures shown { KeepsShown shown.old shown.new }
-        ensures plans { IfOk result (λ found. PlansFor (IfLaid (AreAllRight answers.old.kept) (F.state folder.old)
-            self.old.known self.old.over) (config_with config.old entries.old) shown.new found.plan) }
+        ensures shown { KeepsShown shown.old.links shown.new.links }
+        ensures plans { OnOk result (PlansFor (IfLaid (AreAllRight answers.old.kept) (F.state folder.old)
+            self.old.known self.old.over) (config_with config.old entries.old) shown.new) }
     {
         try_map(
             alloc,

@@ -2,18 +2,17 @@ ghost use Rattle.std.specs.Prelude.{◌≡◌, None, Some, true, is_some, All, I
 ghost use Rattle.request_trace.specs.Tracing.{TakesSteps};
 ghost use Rattle.kept_trace.specs.Ready.{IsEmptyUnder};
 ghost use Rattle.trace_graph.specs.Links.{IsLive};
-ghost use Rattle.edit_session.specs.Agreement.{AgreeBut, next_over};
-ghost use Rattle.edit_session.specs.Shown.{IsPlan, HasPlan};
+ghost use Rattle.edit_session.specs.Agreement.{AgreeBut, next_over, is_changed};
 
 use crate::entries::Entries;
 use crate::looks::Looks;
 use crate::made::Made;
-use crate::mapping::{Mapped, map_again};
-use crate::showing::show;
+use crate::mapping::map_again;
+use crate::showing::Showing;
 use crate::steps::{next, step};
 use crate::stop::EditStop;
 use generation::{Generated, Stop};
-use graph_repair::{Plan, ShownGraph, Slot, View};
+use graph_repair::{Slot, View};
 use kept_trace::TraceAnswers;
 use package_lookup::{Known, Over};
 use request_trace::Config;
@@ -45,15 +44,15 @@ pub struct Session {
     generated: Generated,
     // Those of the map's trace; and those of the trace behind what is pending, if a map is.
     answers: TraceAnswers,
-    // The modules of the map's trace.
-    shown: ShownGraph,
+    // The modules of the map's trace; and the plan to show those of the trace behind what is pending, if a map is.
+    shown: Showing,
     pending: Option<Prepared>,
     // Looks for the next edit, unless what is pending has them; and the paths at which they may be others than those
     // that are laid.
     spare: Over,
     changed: Vec<Path>,
     ghost agree: { AgreeBut changed.items known.laid (next_over spare pending) },
-    ghost planned: { HasPlan shown pending },
+    ghost planned: { is_changed pending ≡ true → is_some shown.plan ≡ true },
 }
 
 /// What an edit that is prepared makes of a session.
@@ -65,21 +64,19 @@ pub(crate) enum Prepared {
     Changed { pending: Pending },
 }
 
-/// What an edit makes of a session: other looks that are laid, other entries, the map for them, and the
-/// plan to show its modules.
+/// What an edit makes of a session: other looks that are laid, other entries, and the map for them.
 #[derive(Drop)]
 pub(crate) struct Pending {
     pub(crate) over: Over,
     pub(crate) entries: Entries,
     pub(crate) generated: Generated,
-    pub(crate) plan: Plan,
 }
 
 impl Session {
     ghost use Rattle.generation.specs.Generating.{StepsToEnd};
     ghost use Rattle.session_spec.specs.SessionStates.{SessionState};
     ghost use Rattle.session_spec.specs.Frugality.{IsFrugal};
-    ghost use Rattle.edit_session.specs.SessionTrees.{IsSessionOf, shown_map, shown_counts, counts_told};
+    ghost use Rattle.edit_session.specs.SessionTrees.{IsSessionOf, shown_in, shown_map, shown_counts, counts_told};
     ghost use Rattle.edit_session.specs.SessionTrees.{steps_of, pending_steps};
     ghost use Rattle.edit_session.specs.SessionParts.{pending_over};
     ghost use Rattle.edit_session.specs.declared.session.Prepared.TheVariants.{Same, Changed};
@@ -117,7 +114,7 @@ impl Session {
     {
         let mut answers = answers;
         let mut known = Known::new(alloc);
-        let mut shown = ShownGraph::new(alloc);
+        let mut shown = Showing::new(alloc);
         match map_again(
             alloc,
             &mut answers,
@@ -128,10 +125,9 @@ impl Session {
             steps,
         ) {
             Err(stop) => Err(stop),
-            Ok(mapped) => {
-                let Mapped { generated, plan } = mapped;
+            Ok(generated) => {
                 answers.exchange();
-                show(&mut shown, plan);
+                shown.commit();
                 let spare = Over::new(alloc);
                 let changed = Vec::new(alloc);
                 Ok(Session {
@@ -258,7 +254,7 @@ impl Session {
     }
 
     fn put_pending(&mut self, looks: Looks, made: Made)
-        requires { IsPlan self.old.shown made.plan }
+        requires { is_some self.old.shown.plan ≡ true }
         ensures known { self.new.known ≡ looks.known }
         ensures config { self.new.config ≡ self.old.config }
         ensures generated { self.new.generated ≡ self.old.generated }
@@ -271,18 +267,13 @@ impl Session {
             over,
             changed,
         } = looks;
-        let Made {
-            entries,
-            generated,
-            plan,
-        } = made;
+        let Made { entries, generated } = made;
         self.known = known;
         self.changed = changed;
         let pending = Pending {
             over,
             entries,
             generated,
-            plan,
         };
         self.pending = Some(Prepared::Changed { pending });
     }
@@ -324,15 +315,15 @@ impl Session {
     /// The modules of the map's trace, as a graph: each has one slot, and each of their requests has the slot of the
     /// module to which it leads. An edit that is prepared isn't seen in it.
     pub fn view(&self) -> View<'_>
-        ensures { result ≡ self.now.shown.graph }
+        ensures { result ≡ (shown_in self.now).graph }
     {
         self.shown.view()
     }
 
     /// The slots of these modules, in trace order.
     pub fn slots(&self) -> &[Slot]
-        ensures slots { result.now ≡ self.now.shown.slots }
-        ensures live { All (IsLive self.now.shown.graph) self.now.shown.slots }
+        ensures slots { result.now ≡ (shown_in self.now).slots }
+        ensures live { All (IsLive (shown_in self.now).graph) (shown_in self.now).slots }
     {
         self.shown.slots()
     }

@@ -1,4 +1,4 @@
-ghost use Rattle.std.specs.Prelude.{◌≡◌, ℕ, List, IfOk, OnOk};
+ghost use Rattle.std.specs.Prelude.{◌≡◌, ℕ, List, true, is_some, IfOk, OnOk};
 ghost use Rattle.std.specs.FinMap.{get};
 ghost use Rattle.generation.specs.declared.generated.Generated.{Generated};
 ghost use Rattle.package_lookup.specs.Looked.{over_at};
@@ -6,7 +6,6 @@ ghost use Rattle.request_trace.specs.Tracing.{StepsByFresh, TakesSteps};
 ghost use Rattle.kept_trace.specs.Ready.{AreAllRight, is_anew};
 ghost use Rattle.session_spec.specs.SessionStates.{config_with};
 ghost use Rattle.edit_session.specs.SessionTrees.{steps_of};
-ghost use Rattle.edit_session.specs.Shown.{IsPlan};
 ghost use Rattle.edit_session.specs.Trying.{IfLaid};
 ghost use Rattle.edit_session.specs.SessionParts.{parts, result_over};
 ghost use Rattle.edit_session.specs.Steps.{MakesNext, GeneratesNext, IsStep, TakesFreshOf};
@@ -15,12 +14,10 @@ use crate::changes::make_all;
 use crate::entries::Entries;
 use crate::looks::Looks;
 use crate::made::Made;
-use crate::mapping::Mapped;
 use crate::session::{Edit, Pending};
-use crate::showing::show;
+use crate::showing::Showing;
 use crate::stop::EditStop;
 use generation::Generated;
-use graph_repair::ShownGraph;
 use kept_trace::TraceAnswers;
 use package_lookup::{Known, Over};
 use request_trace::Config;
@@ -33,7 +30,7 @@ use tree_model::Folder;
 pub(crate) fn next<F: Folder, L: Ledger>(
     alloc: Global,
     answers: &mut TraceAnswers,
-    shown: &mut ShownGraph,
+    shown: &mut Showing,
     looks: &mut Looks,
     config: &mut Config,
     edit: &Edit,
@@ -69,7 +66,7 @@ fn draft(alloc: Global, looks: &mut Looks, config: &Config) -> Result<Entries, M
 fn make<F: Folder, L: Ledger>(
     alloc: Global,
     answers: &mut TraceAnswers,
-    shown: &mut ShownGraph,
+    shown: &mut Showing,
     looks: &mut Looks,
     config: &mut Config,
     entries: Entries,
@@ -98,7 +95,7 @@ fn make<F: Folder, L: Ledger>(
 fn generate<F: Folder, L: Ledger>(
     alloc: Global,
     answers: &mut TraceAnswers,
-    shown: &mut ShownGraph,
+    shown: &mut Showing,
     looks: &mut Looks,
     config: &mut Config,
     entries: Entries,
@@ -119,14 +116,7 @@ fn generate<F: Folder, L: Ledger>(
     let found = looks.try_map(alloc, answers, shown, config, &mut entries, folder, steps);
     match found {
         Err(stop) => Err(EditStop::of_map(stop)),
-        Ok(mapped) => {
-            let Mapped { generated, plan } = mapped;
-            Ok(Made {
-                entries,
-                generated,
-                plan,
-            })
-        }
+        Ok(generated) => Ok(Made { entries, generated }),
     }
 }
 
@@ -137,11 +127,11 @@ pub(crate) fn step(
     config: &mut Config,
     generated: &mut Generated,
     answers: &mut TraceAnswers,
-    shown: &mut ShownGraph,
+    shown: &mut Showing,
     spare: &mut Over,
     pending: Pending,
 )
-    requires { IsPlan shown.old pending.plan }
+    requires { is_some shown.old.plan ≡ true }
     ensures step { IsStep (parts known.old config.old generated.old answers.old shown.old) pending
         (parts known.new config.new generated.new answers.new shown.new) }
     ensures spare { spare.new ≡ known.old.laid }
@@ -150,7 +140,6 @@ pub(crate) fn step(
         over,
         entries,
         generated: map,
-        plan,
     } = pending;
     let mut over = over;
     let mut entries = entries;
@@ -158,6 +147,6 @@ pub(crate) fn step(
     entries.exchange(config);
     *generated = map;
     answers.exchange();
-    show(shown, plan);
+    shown.commit();
     *spare = over;
 }

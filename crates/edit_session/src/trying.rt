@@ -1,17 +1,17 @@
-ghost use Rattle.std.specs.Prelude.{◌≡◌, IfOk, OnOk};
+ghost use Rattle.std.specs.Prelude.{◌≡◌, OnOk};
 ghost use Rattle.std.specs.FinMap.{get};
 ghost use Rattle.kept_trace.specs.Ready.{AreAllRight, is_anew};
 ghost use Rattle.request_trace.specs.Tracing.{StepsByFresh, TakesSteps};
 ghost use Rattle.session_spec.specs.SessionStates.{config_with};
-ghost use Rattle.edit_session.specs.Mapping.{IsKeptFor, map_in};
+ghost use Rattle.edit_session.specs.Mapping.{IsKeptFor};
 ghost use Rattle.edit_session.specs.Shown.{KeepsShown, PlansFor};
 ghost use Rattle.edit_session.specs.SessionTrees.{steps_of};
 ghost use Rattle.edit_session.specs.Trying.{IfLaid, TriesMap};
 
 use crate::entries::Entries;
-use crate::mapping::{Mapped, map_again};
-use generation::Stop;
-use graph_repair::ShownGraph;
+use crate::mapping::map_again;
+use crate::showing::Showing;
+use generation::{Generated, Stop};
 use kept_trace::TraceAnswers;
 use package_lookup::{Known, Over};
 use request_trace::Config;
@@ -24,28 +24,28 @@ use tree_model::Folder;
 pub(crate) fn try_map<F: Folder, L: Ledger>(
     alloc: Global,
     answers: &mut TraceAnswers,
-    shown: &mut ShownGraph,
+    shown: &mut Showing,
     known: &mut Known,
     config: &mut Config,
     over: &mut Over,
     entries: &mut Entries,
     folder: &mut F,
     steps: &mut Steps<L>,
-) -> Result<Mapped, Stop>
+) -> Result<Generated, Stop>
     ensures tries { TriesMap (AreAllRight answers.old.kept) (F.state folder.old) known.old config.old over.old
-        entries.old (map_in result) (F.state folder.new) known.new over.new }
+        entries.old result (F.state folder.new) known.new over.new }
     ensures config { config.new ≡ config.old }
     ensures entries { entries.new ≡ entries.old }
-    ensures steps { TakesSteps (map_in result) steps_of steps.old steps.new }
+    ensures steps { TakesSteps result steps_of steps.old steps.new }
     ensures fresh { IfLaid (AreAllRight answers.old.kept) (F.state folder.old) known.old over.old
         (λ seen. StepsByFresh (is_anew answers.old.kept) (get seen) (config_with config.old entries.old)
         steps.old steps.new) }
     ensures kept { answers.new.kept ≡ answers.old.kept }
     ensures keeps { OnOk result (IfLaid (AreAllRight answers.old.kept) (F.state folder.old) known.old
         over.old (IsKeptFor answers.old.kept (config_with config.old entries.old) answers.new.next)) }
-    ensures shown { KeepsShown shown.old shown.new }
-    ensures plans { IfOk result (λ found. PlansFor (IfLaid (AreAllRight answers.old.kept) (F.state folder.old) known.old
-        over.old) (config_with config.old entries.old) shown.new found.plan) }
+    ensures shown { KeepsShown shown.old.links shown.new.links }
+    ensures plans { OnOk result (PlansFor (IfLaid (AreAllRight answers.old.kept) (F.state folder.old) known.old over.old)
+        (config_with config.old entries.old) shown.new) }
 {
     known.lay(over);
     entries.exchange(config);

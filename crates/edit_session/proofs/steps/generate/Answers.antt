@@ -20,7 +20,7 @@ returns-in-Ok-clause-generates g c generated =
     (parts c.try_map-found.new.self.known c.try_map-found.new.config generated c.try_map-found.new.answers c.try_map-found.new.shown)
     c.args.looks.now.over c.try_map-found.new.self.over c.args.entries
     (record { config = c.try_map-found.ensures.config; generated = refl; answers = c.try_map-found.ensures.kept }) c.try_map-found.ensures.shown
-    (pending_over c.try_map-found.new.self.over (record { entries = c.try_map-found.new.entries; generated = c.in-Ok.mapped.generated; plan = c.in-Ok.mapped.plan })) refl
+    (pending_over c.try_map-found.new.self.over (record { entries = c.try_map-found.new.entries; generated = c.in-Ok.generated })) refl
     c.try_map-found.ensures.entries
     (rw c.in-Ok.is at c.try_map-found.ensures.keeps) (rw c.in-Ok.is at c.try_map-found.ensures.plans)
     (rw c.in-Ok.is at c.try_map-found.ensures.tries)

@@ -1,9 +1,9 @@
 use Rattle.std.proofs.Common.{◌∙◌, subst}
-use Rattle.std.specs.Prelude.{IfOk, OnOk}
+use Rattle.std.specs.Prelude.{OnOk}
 use Rattle.trace_spec.specs.Modules.{Config}
 use Rattle.kept_trace.specs.Ready.{AreAllRight, is_anew}
 use Rattle.request_trace.specs.Tracing.{TakesFreshSteps}
-use Rattle.edit_session.specs.Mapping.{GeneratesIf, IfKnown, LeavesAnswers, map_in}
+use Rattle.edit_session.specs.Mapping.{GeneratesIf, IfKnown, LeavesAnswers}
 use Rattle.edit_session.specs.Shown.{PlansFor}
 use Rattle.edit_session.proofs.MapsAgain.{keeps_ok}
 use Rattle.edit_session.proofs.MapsTried.{tries, fresh_so, keeps_so, plans_laid}
@@ -14,9 +14,9 @@ returns-clause-tries g c =
     tries (AreAllRight c.args.answers.now.kept) (g.F.Folder.state c.args.folder.now) (g.F.Folder.state c.map_again-made.new.folder) c.args.known.now c.lay.new.self
     c.map_again-made.new.known c.lay-2.new.self c.args.config.now c.args.over.now c.lay-2.new.over c.args.entries.now
     c.lay.ensures.laid c.lay.ensures.kept c.lay-2.ensures.kept (c.lay-2.ensures.laid ∙ c.lay.ensures.over) c.lay-2.ensures.over
-    (map_in c.map_again-made.result)
+    c.map_again-made.result
     (subst
-    (λ (config : Config). GeneratesIf (AreAllRight c.args.answers.now.kept) config (g.F.Folder.state c.args.folder.now) c.lay.new.self (map_in c.map_again-made.result)
+    (λ (config : Config). GeneratesIf (AreAllRight c.args.answers.now.kept) config (g.F.Folder.state c.args.folder.now) c.lay.new.self c.map_again-made.result
     (g.F.Folder.state c.map_again-made.new.folder) c.map_again-made.new.known)
     c.exchange.ensures.config c.map_again-made.ensures.generates)
 
@@ -50,6 +50,6 @@ returns-clause-plans g c =
     c.lay.ensures.laid c.lay.ensures.kept c.lay-2.ensures.kept (c.lay-2.ensures.laid ∙ c.lay.ensures.over) c.lay-2.ensures.over
     c.map_again-made.new.shown c.map_again-made.result
     (subst
-    (λ (config : Config). IfOk c.map_again-made.result (λ found. PlansFor (IfKnown (AreAllRight c.args.answers.now.kept)
-    (g.F.Folder.state c.args.folder.now) c.lay.new.self) config c.map_again-made.new.shown found.plan))
+    (λ (config : Config). OnOk c.map_again-made.result (PlansFor (IfKnown (AreAllRight c.args.answers.now.kept)
+    (g.F.Folder.state c.args.folder.now) c.lay.new.self) config c.map_again-made.new.shown))
     c.exchange.ensures.config c.map_again-made.ensures.plans)

@@ -4,7 +4,7 @@ use Rattle.generation.specs.Generating.{IfSeen}
 use Rattle.trace_graph.specs.Links.{Links}
 use Rattle.kept_trace.specs.Ready.{AreAllRight}
 use Rattle.edit_session.specs.Mapping.{IfKnown}
-use Rattle.edit_session.proofs.ShownTraces.{is_plan, plans_as}
+use Rattle.edit_session.proofs.ShownTraces.{has_plan, plans_as}
 use Rattle.kept_trace.specs.Ready.{is_anew}
 use Rattle.edit_session.proofs.FrugalEdits.{opens_to_end}
 use Rattle.edit_session.proofs.MapsAgain.{right_empty}
@@ -21,16 +21,16 @@ pub returns-in-Ok-clause-opens : goal.returns-in-Ok-clause-opens
 returns-in-Ok-clause-opens g c =
     let right = right_empty c.args.config.conditions c.args.answers.kept c.requires in
     opened c.args.config (g.F.Folder.state c.args.folder.now) (g.F.Folder.state c.map_again.new.folder) c.new-known.result
-    c.map_again.new.known c.new-known.ensures.kept c.new-known.ensures.laid (g.met.F.Folder.told c.args.folder.now) _ c.in-Ok.mapped.generated
+    c.map_again.new.known c.new-known.ensures.kept c.new-known.ensures.laid (g.met.F.Folder.told c.args.folder.now) _ c.in-Ok.generated
     refl refl refl
     (opened_answers (g.F.Folder.state c.args.folder.now) c.new-known.result c.args.config c.args.answers.kept
     c.map_again.new.answers.next c.exchange.new.self.kept c.exchange.ensures.kept c.requires.names
     ((rw c.in-Ok.is at c.map_again.ensures.keeps) right))
-    c.new-shown.result (ap (λ (l : Links). length l.graph) c.new-shown.ensures) c.map_again.new.shown c.map_again.ensures.shown c.in-Ok.mapped.plan
+    c.new-shown.result.links (ap (λ (l : Links). length l.graph) c.new-shown.ensures) c.map_again.new.shown c.map_again.ensures.shown
     (plans_as (IfKnown (AreAllRight c.args.answers.kept) (g.F.Folder.state c.args.folder.now) c.new-known.result)
     (λ P. IfSome (g.F.Folder.state c.args.folder.now).holds (λ tree. IfSeen tree c.new-known.result P)) c.args.config c.map_again.new.shown
-    c.in-Ok.mapped.plan (λ l so. so right) (rw c.in-Ok.is at c.map_again.ensures.plans))
-    c.show.ensures
+    (λ l so. so right) (rw c.in-Ok.is at c.map_again.ensures.plans))
+    (c.commit.ensures _ (rw c.in-Ok.is at c.map_again.ensures.plans).is_there)
     refl c.in-Ok.ensures.page (rw c.in-Ok.is at (c.map_again.ensures.generates.is right))
 
 pub returns-in-Err-clause-by_trace : goal.returns-in-Err-clause-by_trace
@@ -45,7 +45,7 @@ returns-in-Ok-clause-by_trace g c =
     c.new-known.ensures.kept c.new-known.ensures.laid c.args.steps.now c.map_again.new.steps
     (c.map_again.ensures.fresh (right_empty c.args.config.conditions c.args.answers.kept c.requires))
 
-pub show-requires : goal.show-requires
-show-requires g c =
-    is_plan (IfKnown (AreAllRight c.args.answers.kept) (g.F.Folder.state c.args.folder.now) c.new-known.result) c.args.config
-    c.map_again.new.shown c.in-Ok.mapped.plan (rw c.in-Ok.is at c.map_again.ensures.plans)
+pub commit-requires : goal.commit-requires
+commit-requires g c =
+    has_plan (IfKnown (AreAllRight c.args.answers.kept) (g.F.Folder.state c.args.folder.now) c.new-known.result) c.args.config
+    c.map_again.new.shown (rw c.in-Ok.is at c.map_again.ensures.plans)
