@@ -2,7 +2,7 @@
 use Rattle.std.proofs.Common.{◌≡◌, ◌++◌, [], ℕ, List, Option, Some, None, Result, Ok, Err, IfSome, refl, sym, ap, ◌∙◌, subst, arith, inl, inr, append-nil}
 use Rattle.std.specs.FinMap.{get}
 use Rattle.std.specs.HashMap as map
-use Rattle.std.specs.Prelude.{◌==◌, ◌≤◌, ◌⊎◌, ◌∷◌, All, true, false, is_some, bytes_eq, length, ⊤}
+use Rattle.std.specs.Prelude.{◌==◌, ◌≤◌, ◌∷◌, All, true, false, is_some, bytes_eq, length, ⊤}
 use Rattle.std.proofs.lemmas.Bool.{true≢false}
 use Rattle.std.proofs.lemmas.Bool.Decides.{Decides-eqb}
 use Rattle.std.proofs.lemmas.List.{append_cancel_left}
@@ -50,7 +50,7 @@ use Rattle.edit_session.specs.NewLooks.{AsksNew, AsksKept, LooksNew}
 use Rattle.session_spec.specs.Showings.{IsShowingOf, KeepsSlots, made_at_once}
 use Rattle.session_watch.specs.Seen.{showing_of}
 use Rattle.edit_session.specs.SessionTrees.{counts_in, shown_in, showing_in, IsSessionOf, IsPendingOf, IsStateThen, ShowsThen, kept_then}
-use Rattle.edit_session.specs.Shown.{Shows, KeepsShown, TracedSo, IsShownOf, HasPlan, PlansFor, IsNextShown}
+use Rattle.edit_session.specs.Shown.{Shows, KeepsShown, TracedSo, IsShownOf, PlansFor, IsNextShown, NoMorePlaces}
 use Rattle.edit_session.specs.Sessions.{IsOpened, OpensSession, IfRefused, StopsEdit, Accepts, Prepares, BecomesBy, Commits}
 use Rattle.session_spec.specs.Frugality.{IsFrugal}
 use Rattle.edit_session.specs.Steps.{MakesNext, IsStep, TakesFreshOf}
@@ -65,7 +65,7 @@ use Rattle.edit_session.proofs.AskedPaths.{asks_as, asks_once_new}
 use Rattle.edit_session.proofs.FrugalEdits.{frugal_nothing}
 use Rattle.edit_session.proofs.LookedOn.{some_told, all_told, looks_on_nothing}
 use Rattle.edit_session.proofs.MapsTried.{generated_of}
-use Rattle.edit_session.proofs.ShownTraces.{showing_same, sources_same, sames_itself, keeps_itself, shown_then, places_then, is_plan}
+use Rattle.edit_session.proofs.ShownTraces.{showing_same, sources_same, sames_itself, keeps_itself, shown_then}
 use Rattle.edit_session.proofs.SlotsKept.{next_showing, showing_itself}
 
 abbrev Done : Type 0
@@ -342,15 +342,9 @@ module _ (old new : Session) (pending : Pending) (there : old.pending ≡ Some (
       shown_then (λ P. P next.tree) next.config old.shown (shown_in new) plans (step.shown plans.plan plans.is_there) next.tree
       plans.traced_so
 
-places_by : (now : Shows) (new : Links) (plan : Option Plan) → HasPlan now.links plan → is_some plan ≡ true
-    → ((p : Plan) → plan ≡ Some p → IsNextShown now.links p new)
-    → (length new.graph ≡ length now.links.graph) ⊎ (length new.graph ≤ made_at_once)
-places_by now new None is has next = absurd (true≢false (sym has))
-places_by now new (Some plan) is has next = places_then now.links new plan is (next plan refl)
-
 pub committed : (old new : Session) (pending : Pending) → old.pending ≡ Some (Changed pending) → new.pending ≡ None
-    → HasPlan (shown_in old) old.shown.plan → is_some old.shown.plan ≡ true → IsStep (parts_of old) pending (parts_of new) → Commits old new
-committed old new pending there none plan has step = record {
+    → IsStep (parts_of old) pending (parts_of new) → Commits old new
+committed old new pending there none step = record {
   becomes = λ tree state next is is_next.
       (let same : is_next.prepared ≡ Changed pending =
       same_prepared is_next.prepared (Changed pending) old.pending is_next.is_there there in
@@ -385,7 +379,7 @@ committed old new pending there none plan has step = record {
         config = step.config;
         generated = step.generated;
         shown = step.shown;
-        places = places_by old.shown (shown_in new) old.shown.plan plan has step.shown;
+        places = step.places;
       });
   kept = λ path. ap (λ kept. map.get bytes_eq kept path) step.kept;
   nothing_pending = none;
@@ -487,7 +481,7 @@ module _ (config : Config) (before after : FolderState) (known later : Known)
       (λ tree. IfSeen tree known (λ seen. AreAnswersOf session.answers.kept seen config)))
       (empty : Links) (nothing : length empty.graph ≡ 0) (grown : Shows) (keeps : KeepsShown empty grown.links)
       (plans : PlansFor (λ P. IfSome before.holds (λ tree. IfSeen tree known P)) config grown)
-      (next : IsNextShown grown.links plans.plan (shown_in session)) where
+      (next : IsNextShown grown.links plans.plan (shown_in session)) (no_more : NoMorePlaces grown.links (shown_in session)) where
     shown_opened : (tree : Tree) → before.holds ≡ Some tree → IsShownOf tree config (shown_in session)
     shown_opened tree e =
         shown_then (λ P. IfSome before.holds (λ tree. IfSeen tree known P)) config grown (shown_in session) plans next tree
@@ -495,7 +489,7 @@ module _ (config : Config) (before after : FolderState) (known later : Known)
 
     few_places : length (shown_in session).graph ≤ made_at_once
     few_places =
-        elim (places_then grown.links (shown_in session) plans.plan (is_plan (λ P. IfSome before.holds (λ tree. IfSeen tree known P)) config grown plans) next) [
+        elim no_more [
           | inl same ↦ (let few = keeps.few in omega (arith, same, few, nothing))
           | inr few ↦ few
         ]

@@ -5,8 +5,8 @@
 --     keeps_itself                         it is kept
 --     shows_trace                          a copy of a trace shows it
 --     shown_then, places_then              what was planned is shown
---     plans_as, has_plan, is_plan          a plan
-use Rattle.std.proofs.Common.{◌≡◌, ◌≤◌, ◌<◌, ◌+◌, ◌++◌, ◌⊎◌, ℕ, zero, suc, List, [], ◌∷◌, length, map, drop, Option, Some, None, Ok, refl, sym, ap, ◌∙◌, subst, arith}
+--     plans_as, has_plan                   a plan
+use Rattle.std.proofs.Common.{◌≡◌, ◌≤◌, ◌<◌, ◌+◌, ◌++◌, ℕ, zero, suc, List, [], ◌∷◌, length, map, drop, Option, Some, None, Ok, refl, sym, ap, ◌∙◌, subst, arith}
 use Rattle.std.specs.FinMap.{get}
 use Rattle.std.specs.Prelude.{◌≢◌, true, is_some, All, flat_map, slice_get, option_map}
 use Rattle.std.proofs.lemmas.List.{length-map}
@@ -28,9 +28,9 @@ use Rattle.trace_spec.specs.Questions.{Source}
 use Rattle.trace_graph.specs.Links.{Links, IsLinked, module_in, source_in, targets_in, led_to, modules_of, sources_of, all_targets, targets_of}
 use Rattle.graph_repair.specs.Repairs.{IsCopyOf, Repairs, ShowsSame, led_by}
 use Rattle.graph_repair.specs.declared.parts.Plan.{Plan}
-use Rattle.session_spec.specs.Showings.{Shown, module_shown, slot_at, ShowsTrace, IsShowingOf, made_at_once}
+use Rattle.session_spec.specs.Showings.{Shown, module_shown, slot_at, ShowsTrace, IsShowingOf}
 use Rattle.session_watch.specs.Seen.{vertex_shown, shown_at, showing_of}
-use Rattle.edit_session.specs.Shown.{Shows, KeepsShown, AreLinksOf, TracedSo, HaveSources, IsShownOf, IsPlan, PlansFor, IsNextShown}
+use Rattle.edit_session.specs.Shown.{Shows, KeepsShown, AreLinksOf, TracedSo, HaveSources, IsShownOf, IsPlan, PlansFor, IsNextShown, NoMorePlaces}
 
 abbrev Vertex : Type 0
 Vertex = vertex.Module
@@ -207,7 +207,7 @@ module _ (If : (Tree → Type 0) → Type 0) (config : Config) (now : Shows) (ne
   }
 
 pub places_then : (old new : Links) (plan : Plan) → IsPlan old plan → IsNextShown old plan new
-    → (length new.graph ≡ length old.graph) ⊎ (length new.graph ≤ made_at_once)
+    → NoMorePlaces old new
 places_then old new plan (made, l, planned) next = (next.repairs made l planned).places
 
 -- ---- a plan for something else
@@ -229,6 +229,3 @@ plans_as If Other config now goes plans = record {
 
 pub has_plan : (If : (Tree → Type 0) → Type 0) (config : Config) (now : Shows) → PlansFor If config now → is_some now.plan ≡ true
 has_plan If config now plans = ap is_some plans.is_there
-
-pub is_plan : (If : (Tree → Type 0) → Type 0) (config : Config) (now : Shows) (plans : PlansFor If config now) → IsPlan now.links plans.plan
-is_plan If config now plans = (plans.made, plans.links, plans.planned)

@@ -8,7 +8,7 @@
 --     Prepares before old edit result after new       an edit that is prepared
 --     Commits old new                 what is pending becomes the state
 use Rattle.std.specs.Prelude.{◌≡◌, ◌↔◌, ⊤, [], ℕ, List, true, Some, None, Result, Err, IfOk, IfErr, IfSome, OnOk, OnErr}
-use Rattle.std.specs.Prelude.{◌≤◌, ◌⊎◌, length, is_some, Ok}
+use Rattle.std.specs.Prelude.{◌≤◌, length, is_some, Ok}
 use Rattle.tree_spec.specs.States.{FolderState, OnlyLooks}
 use Rattle.tree_spec.specs.Trees.{Tree}
 use Rattle.trace_spec.specs.Modules.{Config}
@@ -31,7 +31,7 @@ use Rattle.session_spec.specs.SessionStates.{SessionState, draft_of, config_with
 use Rattle.graph_repair.specs.declared.parts.Plan.{Plan}
 use Rattle.session_spec.specs.Showings.{NextShowing, made_at_once}
 use Rattle.edit_session.specs.NewLooks.{AsksKept, LooksNew}
-use Rattle.edit_session.specs.Shown.{KeepsShown, IsNextShown}
+use Rattle.edit_session.specs.Shown.{KeepsShown, IsNextShown, NoMorePlaces}
 use Rattle.edit_session.specs.SessionTrees.{IsSessionOf, IsPendingOf, shown_in, showing_in}
 use Rattle.edit_session.specs.declared.session.Pending.{Pending}
 use Rattle.edit_session.specs.declared.session.Prepared.{Prepared}
@@ -136,8 +136,7 @@ pub record StepsTo (old : Session) (pending : Pending) (new : Session) : Type 0 
   pub config : new.config ≡ config_with old.config pending.entries
   pub generated : new.generated ≡ pending.generated
   pub shown : (plan : Plan) → old.shown.plan ≡ Some plan → IsNextShown (shown_in old) plan (shown_in new)
-  pub places :
-      (length (shown_in new).graph ≡ length (shown_in old).graph) ⊎ (length (shown_in new).graph ≤ made_at_once)
+  pub places : NoMorePlaces (shown_in old) (shown_in new)
 
 -- own: laid looks, entries, map, counts and what is shown stay
 pub record StaysAs (old new : Session) : Type 0 where

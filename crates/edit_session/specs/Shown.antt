@@ -11,7 +11,8 @@
 --     PlansFor If config now          the plan is one for the trace of the tree of which `If` speaks; when it was made,
 --                                     there weren't more places
 --     IsNextShown old plan new        what is shown then
-use Rattle.std.specs.Prelude.{◌≡◌, ◌≤◌, ◌+◌, ⊤, ℕ, List, length, Option, Some, None, Ok}
+--     NoMorePlaces old new            no place was made, except those of a new graph
+use Rattle.std.specs.Prelude.{◌≡◌, ◌⊎◌, ◌≤◌, ◌+◌, ⊤, ℕ, List, length, Option, Some, None, Ok}
 use Rattle.std.specs.FinMap.{get}
 use Rattle.tree_spec.specs.Trees.{Tree}
 use Rattle.trace_spec.specs.Checks.{Gathered}
@@ -81,3 +82,6 @@ pub record IsNextShown (old : Links) (plan : Plan) (new : Links) : Type 0 where
   pub linked : IsLinked old
   pub modules : AreModules new.graph
   pub repairs : (made : ℕ) (l : Links) → IsPlanned made old l plan → Repairs made old l new
+
+abbrev pub NoMorePlaces : Links → Links → Type 0
+NoMorePlaces old new = (length new.graph ≡ length old.graph) ⊎ (length new.graph ≤ made_at_once)

@@ -30,7 +30,7 @@ use Rattle.session_spec.specs.Frugality.{IsFrugal}
 use Rattle.edit_session.specs.KeptAnswers.{AreAnswersOf}
 use Rattle.edit_session.specs.LooksOn.{LooksOn}
 use Rattle.edit_session.specs.Mapping.{IsKeptFor}
-use Rattle.edit_session.specs.Shown.{Shows, KeepsShown, IsNextShown, PlansFor}
+use Rattle.edit_session.specs.Shown.{Shows, KeepsShown, IsNextShown, NoMorePlaces, PlansFor}
 use Rattle.edit_session.specs.Sessions.{StopsEdit, CanStopEdit}
 use Rattle.edit_session.specs.SessionTrees.{IsStateOf, counts_in}
 use Rattle.edit_session.specs.Trying.{IfLaid}
@@ -120,3 +120,4 @@ pub record IsStep (old : Parts) (pending : Pending) (new : Parts) : Type 0 where
   pub generated : new.generated ≡ pending.generated
   pub answers : new.answers.kept ≡ old.answers.next
   pub shown : (plan : Plan) → old.shown.plan ≡ Some plan → IsNextShown old.shown.links plan new.shown.links
+  pub places : NoMorePlaces old.shown.links new.shown.links

@@ -2,7 +2,7 @@ ghost use Rattle.std.specs.Prelude.{◌≡◌, Some, None, [], true, is_some, le
 ghost use Rattle.graph_repair.specs.Plans.{shown};
 ghost use Rattle.graph_repair.specs.declared.parts.Plan as declared;
 ghost use Rattle.trace_graph.specs.Links.{IsLive};
-ghost use Rattle.edit_session.specs.Shown.{KeepsShown, IsPlannedBy, IsNextShown};
+ghost use Rattle.edit_session.specs.Shown.{KeepsShown, IsPlan, IsPlannedBy, IsNextShown, NoMorePlaces};
 
 use graph_repair::{Plan, ShownGraph, Slot, View};
 use request_trace::Trace;
@@ -55,14 +55,14 @@ impl Showing {
     /// Shows what was planned. It takes no memory.
     pub(crate) fn commit(&mut self)
         requires { is_some self.old.plan ≡ true }
-        ensures { (plan : declared.Plan) → self.old.plan ≡ Some plan → IsNextShown self.old.links plan self.new.links }
+        ensures shown { (plan : declared.Plan) → self.old.plan ≡ Some plan
+            → IsNextShown self.old.links plan self.new.links }
+        ensures places { NoMorePlaces self.old.links self.new.links }
     {
         match self.plan.take() {
             None => {}
-            Some(plan) => self.graph.commit(plan),
+            Some(plan) => show(&mut self.graph, plan),
         }
-        // What is known of a graph is known where it is looked at.
-        let _view = self.graph.view();
     }
 
     /// The graph, to be looked at.
@@ -79,4 +79,15 @@ impl Showing {
     {
         self.graph.slots()
     }
+}
+
+// Shows the trace for which a plan was made.
+fn show(graph: &mut ShownGraph, plan: Plan)
+    requires { IsPlan graph.old plan }
+    ensures shown { IsNextShown graph.old plan graph.new }
+    ensures places { NoMorePlaces graph.old graph.new }
+{
+    graph.commit(plan);
+    // What is known of a graph is known where it is looked at.
+    let _view = graph.view();
 }

@@ -7,4 +7,4 @@ returns-in-Some-Same c = committed_same c.args.self.now _ (search rules) (search
 
 pub returns-in-Some-Changed : goal.returns-in-Some-Changed
 returns-in-Some-Changed c =
-    committed c.args.self.now _ c.in-Some-Changed.pending (search rules) (search rules) c.self.invariant c.step.requires c.step.ensures.step
+    committed c.args.self.now _ c.in-Some-Changed.pending (search rules) (search rules) c.step.ensures.step

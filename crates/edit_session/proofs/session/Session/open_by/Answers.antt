@@ -30,7 +30,7 @@ returns-in-Ok-clause-opens g c =
     (plans_as (IfKnown (AreAllRight c.args.answers.kept) (g.F.Folder.state c.args.folder.now) c.new-known.result)
     (λ P. IfSome (g.F.Folder.state c.args.folder.now).holds (λ tree. IfSeen tree c.new-known.result P)) c.args.config c.map_again.new.shown
     (λ l so. so right) (rw c.in-Ok.is at c.map_again.ensures.plans))
-    (c.commit.ensures _ (rw c.in-Ok.is at c.map_again.ensures.plans).is_there)
+    (c.commit.ensures.shown _ (rw c.in-Ok.is at c.map_again.ensures.plans).is_there) c.commit.ensures.places
     refl c.in-Ok.ensures.page (rw c.in-Ok.is at (c.map_again.ensures.generates.is right))
 
 pub returns-in-Err-clause-by_trace : goal.returns-in-Err-clause-by_trace
