@@ -370,8 +370,8 @@ committed old new pending there none step = record {
   slots = λ tree state next is is_next.
       next_showing old.shown (shown_in new) state.tree next.tree state.config next.config
       (record { shows = is.shows; sources = is.sources }) is.current.generates.all is.current.generates.is_traced
-      (plans_next old pending there tree next is_next) is_next.current.generates.all is_next.current.generates.is_traced
-      (step.shown (plans_next old pending there tree next is_next).plan (plans_next old pending there tree next is_next).is_there);
+      (plans_next old new pending there tree next is_next) is_next.current.generates.all is_next.current.generates.is_traced
+      (step.shown (plans_next old new pending there tree next is_next).plan (plans_next old new pending there tree next is_next).is_there);
   steps = λ other e.
       subst (λ (p : Prepared). BecomesBy old p new) (same_prepared (Changed pending) other old.pending there e)
       (record {
@@ -481,10 +481,11 @@ module _ (config : Config) (before after : FolderState) (known later : Known)
       (λ tree. IfSeen tree known (λ seen. AreAnswersOf session.answers.kept seen config)))
       (empty : Links) (nothing : length empty.graph ≡ 0) (grown : Shows) (keeps : KeepsShown empty grown.links)
       (plans : PlansFor (λ P. IfSome before.holds (λ tree. IfSeen tree known P)) config grown)
-      (next : IsNextShown grown.links plans.plan (shown_in session)) (no_more : NoMorePlaces grown.links (shown_in session)) where
+      (next : (plan : Plan) → grown.plan ≡ Some plan → IsNextShown grown.links plan (shown_in session)) (no_more : NoMorePlaces grown.links (shown_in session)) where
     shown_opened : (tree : Tree) → before.holds ≡ Some tree → IsShownOf tree config (shown_in session)
     shown_opened tree e =
-        shown_then (λ P. IfSome before.holds (λ tree. IfSeen tree known P)) config grown (shown_in session) plans next tree
+        shown_then (λ P. IfSome before.holds (λ tree. IfSeen tree known P)) config grown (shown_in session) plans
+        (next plans.plan plans.is_there) tree
         (in_tree (λ seen. TracedSo seen config plans.links) plans.traced_so tree e)
 
     few_places : length (shown_in session).graph ≤ made_at_once

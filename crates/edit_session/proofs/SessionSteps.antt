@@ -6,7 +6,6 @@ use Rattle.tree_spec.specs.States.{FolderState}
 use Rattle.tree_spec.specs.Trees.{Tree}
 use Rattle.trace_spec.specs.Laws.{IsLookedAt}
 use Rattle.trace_spec.specs.Modules.{Config}
-use Rattle.trace_graph.specs.Links.{Links}
 use Rattle.config_spec.specs.declared.Command.TheVariants.{Refresh}
 use Rattle.generator_spec.specs.Commands.{Refuses, IsRefusalOf}
 use Rattle.package_lookup.specs.declared.over.Over.{Over}
@@ -33,7 +32,7 @@ use Rattle.edit_session.specs.SessionTrees.{counts_in}
 use Rattle.edit_session.specs.Sessions.{StopsEdit, CanStopEdit}
 use Rattle.edit_session.specs.Steps.{LeadsTo, CanLackMap, IsAsBefore, GeneratesNext, MakesNext, TakesFreshOf}
 use Rattle.edit_session.specs.Stopping.{stop_by, stop_for}
-use Rattle.edit_session.specs.Shown.{Shows, KeepsShown, TracedSo, PlansFor}
+use Rattle.edit_session.specs.Shown.{Shows, KeepsShown, PlansFor}
 use Rattle.edit_session.specs.Trying.{IfLaid, TriesMap}
 use Rattle.edit_session.specs.SessionParts.{Parts, IsPartsOf}
 use Rattle.edit_session.specs.declared.session.Pending.{Pending}

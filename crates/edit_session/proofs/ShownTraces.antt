@@ -6,8 +6,7 @@
 --     shows_trace                          a copy of a trace shows it
 --     shown_then, places_then              what was planned is shown
 --     plans_as, has_plan                   a plan
-use Rattle.std.proofs.Common.{◌≡◌, ◌≤◌, ◌<◌, ◌+◌, ◌++◌, ℕ, zero, suc, List, [], ◌∷◌, length, map, drop, Option, Some, None, Ok, refl, sym, ap, ◌∙◌, subst, arith}
-use Rattle.std.specs.FinMap.{get}
+use Rattle.std.proofs.Common.{◌≡◌, ◌<◌, ◌++◌, ℕ, zero, suc, List, [], ◌∷◌, length, map, drop, Option, Some, None, refl, sym, ap, ◌∙◌, subst, arith}
 use Rattle.std.specs.Prelude.{◌≢◌, true, is_some, All, flat_map, slice_get, option_map}
 use Rattle.std.proofs.lemmas.List.{length-map}
 use Rattle.std.proofs.lemmas.List.Elements.{All-head, All-tail}
@@ -19,18 +18,18 @@ use Rattle.module_spec.specs.declared.request.Request.{Request}
 use Rattle.module_graph.specs.declared.module.Module as vertex
 use Rattle.module_graph.specs.Calls.{begin}
 use Rattle.module_graph.specs.Graphs.{AreModules}
-use Rattle.module_graph.specs.Many.{AreApart, slot_in}
+use Rattle.module_graph.specs.Many.{AreApart}
 use Rattle.module_graph.specs.Modules.{IsModule}
 use Rattle.module_graph.proofs.WellMade.{live_is_module}
 use Rattle.trace_spec.specs.Checks.{Gathered}
-use Rattle.trace_spec.specs.Modules.{Config, Module}
+use Rattle.trace_spec.specs.Modules.{Config}
 use Rattle.trace_spec.specs.Questions.{Source}
 use Rattle.trace_graph.specs.Links.{Links, IsLinked, module_in, source_in, targets_in, led_to, modules_of, sources_of, all_targets, targets_of}
 use Rattle.graph_repair.specs.Repairs.{IsCopyOf, Repairs, ShowsSame, led_by}
 use Rattle.graph_repair.specs.declared.parts.Plan.{Plan}
-use Rattle.session_spec.specs.Showings.{Shown, module_shown, slot_at, ShowsTrace, IsShowingOf}
+use Rattle.session_spec.specs.Showings.{Shown, module_shown, slot_at, ShowsTrace}
 use Rattle.session_watch.specs.Seen.{vertex_shown, shown_at, showing_of}
-use Rattle.edit_session.specs.Shown.{Shows, KeepsShown, AreLinksOf, TracedSo, HaveSources, IsShownOf, IsPlan, PlansFor, IsNextShown, NoMorePlaces}
+use Rattle.edit_session.specs.Shown.{Shows, KeepsShown, AreLinksOf, TracedSo, IsShownOf, IsPlan, PlansFor, IsNextShown, NoMorePlaces}
 
 abbrev Vertex : Type 0
 Vertex = vertex.Module

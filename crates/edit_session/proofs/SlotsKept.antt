@@ -10,7 +10,6 @@ use Rattle.std.proofs.lemmas.Option.{slice_get-map, slice_get_within, get_or_fro
 use Rattle.tree_spec.specs.LookAskings.{Sights}
 use Rattle.tree_spec.specs.Limits.{limit_number}
 use Rattle.tree_spec.specs.Trees.{Tree}
-use Rattle.tree_spec.specs.declared.Entry.{Entry}
 use Rattle.tree_spec.specs.declared.Entry.TheVariants.{Stored}
 use Rattle.tree_spec.specs.declared.LimitName.TheVariants.{Modules}
 use Rattle.slot_arena.specs.Slots.{Place, value_at}
@@ -31,7 +30,7 @@ use Rattle.graph_repair.specs.Matching.{AreOnce, IsAlike}
 use Rattle.graph_repair.specs.Neighbours.{LastsBetween}
 use Rattle.graph_repair.specs.Repairs.{Repairs}
 use Rattle.graph_repair.proofs.Neighbours.{slots_last}
-use Rattle.session_spec.specs.Showings.{Shown, module_shown, slot_at, ShowsTrace, KeepsSlots, NextShowing, most_made}
+use Rattle.session_spec.specs.Showings.{Shown, module_shown, ShowsTrace, KeepsSlots, NextShowing, most_made}
 use Rattle.session_watch.specs.Seen.{shown_at, showing_of}
 use Rattle.edit_session.specs.Shown.{Shows, AreLinksOf, IsShownOf, PlansFor, IsNextShown}
 use Rattle.edit_session.proofs.ShownTraces.{module_of_shown, slot_of_shown, modules_shown}

@@ -12,7 +12,7 @@
 --                                     there weren't more places
 --     IsNextShown old plan new        what is shown then
 --     NoMorePlaces old new            no place was made, except those of a new graph
-use Rattle.std.specs.Prelude.{◌≡◌, ◌⊎◌, ◌≤◌, ◌+◌, ⊤, ℕ, List, length, Option, Some, None, Ok}
+use Rattle.std.specs.Prelude.{◌≡◌, ◌⊎◌, ◌≤◌, ◌+◌, ⊤, ℕ, length, Option, Some, None, Ok}
 use Rattle.std.specs.FinMap.{get}
 use Rattle.tree_spec.specs.Trees.{Tree}
 use Rattle.trace_spec.specs.Checks.{Gathered}

@@ -47,7 +47,9 @@ pub(crate) fn next<F: Folder, L: Ledger>(
 {
     match draft(alloc, looks, config) {
         Err(_) => Err(EditStop::Memory),
-        Ok(entries) => make(alloc, answers, shown, looks, config, entries, edit, folder, steps),
+        Ok(entries) => make(
+            alloc, answers, shown, looks, config, entries, edit, folder, steps,
+        ),
     }
 }
 

@@ -1,4 +1,5 @@
-use Rattle.std.proofs.Common.{length, ap, refl}
+use Rattle.std.proofs.Common.{length, ap, ◌∙◌, refl, sym}
+use Rattle.std.proofs.lemmas.Bool.{true≢false}
 use Rattle.std.specs.Prelude.{IfSome}
 use Rattle.generation.specs.Generating.{IfSeen}
 use Rattle.trace_graph.specs.Links.{Links}
@@ -30,7 +31,7 @@ returns-in-Ok-clause-opens g c =
     (plans_as (IfKnown (AreAllRight c.args.answers.kept) (g.F.Folder.state c.args.folder.now) c.new-known.result)
     (λ P. IfSome (g.F.Folder.state c.args.folder.now).holds (λ tree. IfSeen tree c.new-known.result P)) c.args.config c.map_again.new.shown
     (λ l so. so right) (rw c.in-Ok.is at c.map_again.ensures.plans))
-    (c.commit.ensures.shown _ (rw c.in-Ok.is at c.map_again.ensures.plans).is_there) c.commit.ensures.places
+    c.commit.ensures.shown c.commit.ensures.places
     refl c.in-Ok.ensures.page (rw c.in-Ok.is at (c.map_again.ensures.generates.is right))
 
 pub returns-in-Err-clause-by_trace : goal.returns-in-Err-clause-by_trace
@@ -49,3 +50,10 @@ pub commit-requires : goal.commit-requires
 commit-requires g c =
     has_plan (IfKnown (AreAllRight c.args.answers.kept) (g.F.Folder.state c.args.folder.now) c.new-known.result) c.args.config
     c.map_again.new.shown (rw c.in-Ok.is at c.map_again.ensures.plans)
+
+pub invariant_of-result-clause-planned : goal.invariant_of-result-clause-planned
+invariant_of-result-clause-planned g c = λ e. absurd (true≢false (sym e))
+
+pub invariant_of-result-clause-agree : goal.invariant_of-result-clause-agree
+invariant_of-result-clause-agree g c = λ path out.
+    c.new-spare.ensures path ∙ sym (c.map_again.ensures.generates.always.learns.known.laid path ∙ c.new-known.ensures.laid path)
