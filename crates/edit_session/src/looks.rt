@@ -1,4 +1,4 @@
-ghost use Rattle.std.specs.Prelude.{◌≡◌, List, ℕ, Ok, OnOk};
+ghost use Rattle.std.specs.Prelude.{◌≡◌, List, ℕ, OnOk};
 ghost use Rattle.kept_trace.specs.Ready.{AreAllRight, is_anew};
 ghost use Rattle.std.specs.FinMap.{get};
 ghost use Rattle.package_lookup.specs.Looked.{over_at, Puts};
@@ -8,7 +8,6 @@ ghost use Rattle.edit_session.specs.Mapping.{IsKeptFor};
 ghost use Rattle.edit_session.specs.SessionTrees.{steps_of};
 ghost use Rattle.edit_session.specs.Agreement.{AgreeBut};
 ghost use Rattle.edit_session.specs.Standings.{Stands};
-ghost use Rattle.edit_session.specs.declared.standing.Standing.TheVariants.{Nothing};
 ghost use Rattle.edit_session.specs.Trying.{IfLaid, TriesMap};
 
 use crate::entries::Entries;
@@ -16,7 +15,7 @@ use crate::standing::{Standing, standing_of};
 use crate::trying::try_map;
 use generation::{Generated, Stop};
 use kept_trace::TraceAnswers;
-use package_lookup::{Known, Over, Trail};
+use package_lookup::{Known, Over};
 use request_trace::Config;
 use shared_types::{Memory, Steps};
 use std::alloc::Global;
@@ -51,21 +50,17 @@ impl Looks {
         Ok(())
     }
 
-    /// What stands at a path, where the looks of the edit are laid over what is known. On the trail are looks at which no
-    /// file stood.
+    /// What stands at a path, where the looks of the edit are laid over what is known.
     pub(crate) fn standing_of<F: Folder>(
         &mut self,
         alloc: Global,
         folder: &mut F,
         path: &Path,
-        trail: &mut Trail,
     ) -> Result<Standing, LookFault>
-        requires { trail.old.size ≡ 0 }
-        ensures stands { Stands (F.state folder.old) self.old.known self.old.over path.now result
+        ensures { Stands (F.state folder.old) self.old.known self.old.over path.now result
             (F.state folder.new) self.new.known self.new.over }
-        ensures trail { result ≡ Ok Nothing → trail.new.size ≡ 0 }
     {
-        standing_of(alloc, &mut self.known, &mut self.over, folder, path, trail)
+        standing_of(alloc, &mut self.known, &mut self.over, folder, path)
     }
 
     /// Puts a look of the edit at its path.
