@@ -91,6 +91,13 @@ impl Trace {
         self.trail.paths()
     }
 
+    /// The modules under slots, in trace order, with the slots to which the entries lead.
+    pub fn graph(&self) -> &TraceGraph
+        ensures { result.now ≡ self.now.links }
+    {
+        &self.graph
+    }
+
     /// The modules as a graph: each has one slot, and each of their requests has the slot of the module to which it
     /// leads.
     pub fn view(&self) -> View<'_>
