@@ -1,7 +1,7 @@
 ghost use Rattle.std.specs.Prelude.{◌≡◌, List, ℕ, OnOk};
 ghost use Rattle.kept_trace.specs.Ready.{AreAllRight, is_anew};
 ghost use Rattle.std.specs.FinMap.{get};
-ghost use Rattle.package_lookup.specs.Looked.{over_at, Puts};
+ghost use Rattle.package_lookup.specs.Looked.{kept_at, over_at, Puts};
 ghost use Rattle.request_trace.specs.Tracing.{StepsByFresh, TakesSteps};
 ghost use Rattle.session_spec.specs.SessionStates.{config_with};
 ghost use Rattle.edit_session.specs.Mapping.{IsKeptFor};
@@ -40,6 +40,7 @@ impl Looks {
         ensures known { self.new.known ≡ self.old.known }
         ensures level { OnOk result ((path : List ℕ) → over_at self.new.over path ≡ over_at self.new.known.laid path) }
     {
+        self.over.make_room(self.changed.len());
         make_level(
             alloc,
             self.known.laid(),
@@ -48,6 +49,16 @@ impl Looks {
         )?;
         self.changed.clear();
         Ok(())
+    }
+
+    /// Makes room for so many looks that an edit takes, and lays.
+    pub(crate) fn make_room(&mut self, more: usize)
+        ensures laid { self.new.known.laid ≡ self.old.known.laid }
+        ensures kept { (path : List ℕ) → kept_at self.new.known path ≡ kept_at self.old.known path }
+        ensures over { (path : List ℕ) → over_at self.new.over path ≡ over_at self.old.over path }
+    {
+        self.known.make_room(more);
+        self.over.make_room(more);
     }
 
     /// What stands at a path, where the looks of the edit are laid over what is known.
