@@ -44,7 +44,7 @@ fn looks_taken(edit: &[Change]) -> usize {
         taken = taken.saturating_add(match change {
             Change::Link { .. } => 0,
             Change::Unlink { .. } => 0,
-            Change::Put { path, .. } => path.as_str().split('/').count(),
+            Change::Put { path, .. } => path.as_str().split('/').count().saturating_sub(1),
             Change::Drop { .. } => 1,
         });
     }
