@@ -27,8 +27,8 @@ returns-in-Ok-None g c =
     c.args.looks.now.over c.standing_of.new.self.over c.args.path.now (rw (c.in-Ok-None.is, c.in-Ok-None.field-0-is) at c.parent.ensures.parent)
     (rw (c.in-Ok-Nothing.is, c.in-Ok-Nothing.field-0-is) at c.standing_of.ensures)
 
-pub returns : goal.returns
-returns g c =
+pub returns-in-Ok-Some : goal.returns-in-Ok-Some
+returns-in-Ok-Some g c =
     room_above (g.F.Folder.state c.args.folder.now) (g.F.Folder.state c.make_folders.new.folder) c.args.looks.now.known c.make_folders.new.looks.known
     c.args.looks.now.over c.make_folders.new.looks.over c.args.path.now (g.F.Folder.state c.standing_of.new.folder) c.standing_of.new.self.known c.standing_of.new.self.over
     c.in-Ok-Some.parent c.make_folders.result (rw (c.in-Ok-Nothing.is, c.in-Ok-Nothing.field-0-is) at c.standing_of.ensures)

@@ -23,8 +23,8 @@ returns-in-Ok g c =
     c.args.looks.now.over c.standing_of.new.self.over c.args.path.now c.set.new.self.over (rw (c.in-Ok-File.is, c.in-Ok-File.field-0-is) at c.standing_of.ensures)
     (rw c.in-Ok.is at c.set.ensures.set))
 
-pub returns : goal.returns
-returns g c =
+pub returns-in-Err-set : goal.returns-in-Err-set
+returns-in-Err-set g c =
     rw c.set.ensures.known
     (drop_lacks (g.F.Folder.state c.args.folder.now) (g.F.Folder.state c.standing_of.new.folder) c.args.looks.now.known c.standing_of.new.self.known
     c.args.looks.now.over c.standing_of.new.self.over c.args.path.now c.set.new.self.over (rw (c.in-Ok-File.is, c.in-Ok-File.field-0-is) at c.standing_of.ensures))
