@@ -15,15 +15,7 @@ use Rattle.generator_spec.specs.Digests.{digests, with_digest}
 use Rattle.layout.proofs.Ordered.{entries_mapped}
 use Rattle.layout.proofs.Updates.{finite_insert}
 use Rattle.scope_builder.specs.Keys.{InKeyOrder}
-use Rattle.generation.specs.Digesting.{HasEach, kept_texts}
-
--- the digest of a module whose bytes were found may be asked for
-pub has_found : (has : ℕ → List ℕ → Type 0) (sources : List Source) (place : ℕ) (bytes : List ℕ) → HasEach has sources → Some bytes ≡ option_map (λ source. source.bytes) (slice_get sources place) → has place bytes
-has_found has sources place bytes each found = by (slice_get sources place) refl found
-  where
-    by : (at : Option Source) → slice_get sources place ≡ at → Some bytes ≡ option_map (λ source. source.bytes) at → has place bytes
-    by None there e = absurd (cc)
-    by (Some source) there e = subst (λ b. has place b) (sym (same_Some bytes source.bytes e)) (each place source there)
+use Rattle.generation.specs.Digesting.{kept_texts}
 
 pub kept_inserted : (m n : BTreeMap (List ℕ) (List ℕ)) (key text digest : List ℕ) → text ≡ digest → Updates (slice_cmp nat_cmp) m n key (Some text) → kept_texts n ≡ insert (kept_texts m) key digest
 kept_inserted m n key text digest t put = finite_insert (λ x. x) m n key text put ∙ ap (insert (kept_texts m) key) t
