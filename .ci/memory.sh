@@ -1,34 +1,41 @@
 #!/bin/sh
-# Lets each allocation of a run fail in turn, outside the gate: of `link` over packages, and of a session with two edits. The
-# runs are those of crates/run_rows/data/packages.txt and session_commits.txt. Where its input is a number, the program first
-# makes so many allocations, so one build serves for them all: allocation LAST fails, and a smaller input moves the failure
-# further back. Prints how often the runs ended in which way; the first allocations that fail are those with which the row
-# itself is read. Of the session a second run is made, in which an edit is made again that found no memory.
+# Lets each allocation of a run fail in turn, outside the gate: of `link` over packages, of `unlink`, `refresh` and `inject`,
+# and of a session with two edits.
+# The runs are those of files in crates/run_rows/data, tried by the proved program that the
+# gate built: the first allocation fails, then the second, and so on to the last that the run makes. Prints how often the
+# runs ended in which way; the first allocations are those with which the row itself is read. Of the session a second run
+# is made, in which an edit is made again that found no memory. It needs a C compiler.
 #
-#     .ci/memory.sh [LAST [FILE]..]
-LAST=${1:-1000}
-[ $# = 0 ] || shift
-[ $# != 0 ] || set -- packages.txt session_commits.txt
+#     .ci/memory.sh [FILE]..
+[ $# != 0 ] || set -- packages.txt memory_commands.txt session_commits.txt
+here=$(cd "$(dirname "$0")" && pwd)
+cd "$here/../crates/run_rows" || exit 1
+program=$PWD/out/run_rows
+[ -x "$program" ] || { echo "memory.sh: run_rows isn't built: rt ci builds it" >&2; exit 1; }
 kept=$(mktemp -d) || exit 1
 trap 'rm -rf "$kept"' EXIT
-mkdir "$kept/inputs"
-for number in $(seq 0 $((LAST - 1))); do
-    echo "$number" >"$kept/inputs/$number"
-done
-cd "$(dirname "$0")/../crates/run_rows" || exit 1
+cc -O2 -shared -fPIC -o "$kept/fail.so" "$here/fail_allocation.c" -ldl || exit 1
+
+# The ending of the run of a file in which this allocation fails: 0 for none, and then how many there are.
+ending() {
+    echo 0 | FAIL_ALLOCATION=$2 LD_PRELOAD=$kept/fail.so "$program" "$1"
+}
 
 # The endings of the runs of a file, each on a line.
 endings() {
-    rt try --seconds 600 --cases "$kept/inputs" --fail-alloc "$LAST" -- "data/$1" >"$kept/out" 2>"$kept/log" || {
-        tail -n 20 "$kept/log" >&2
-        return 1
-    }
-    echo "$1:"
-    grep -v '^== ' "$kept/out" | sort | uniq -c
-    # The failure lies behind the run where nothing goes before it, and within it somewhere.
-    sed -n '/^== 0$/{n;p;}' "$kept/out" | grep -qx done &&
+    ending "data/$1" 0 >"$kept/whole" 2>"$kept/count" || return 1
+    count=$(cat "$kept/count")
+    number=0
+    while [ "$number" -lt "$count" ]; do
+        number=$((number + 1))
+        ending "data/$1" "$number" 2>&1 || echo "(status $?)"
+    done >"$kept/out"
+    echo "$1: $count allocations"
+    sort "$kept/out" | uniq -c
+    # A program that can't even read its words ends with 1.
+    grep -qx done "$kept/whole" &&
         grep -qx memory "$kept/out" &&
-        ! grep -qx wrong "$kept/out"
+        ! grep -e wrong -e '^(status [^1])' -e '^(status 1.)' "$kept/out"
 }
 
 failed=0

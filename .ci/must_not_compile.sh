@@ -1,9 +1,10 @@
 #!/bin/sh
 # Programs that must not compile. A view lends a graph, so one that keeps a view while the graph is changed must not
-# (must-not-compile/view_is_kept.txt, in four ways); only `outline` makes requests, and only `resolve` a `Found`, so one
-# that makes them by itself must not (requests_are_forged.txt, found_is_forged.txt, each in two). In a copy of the crates
-# each is tried twice: as it stands, it must be refused for that, at the lines that say so and at no other; and without
-# the lines that make it an error it must compile and run. Nothing is proved here.
+# (must-not-compile/view_is_kept.txt, in four ways); only `outline` makes requests, only `resolve` a `Found`, and only a
+# `Found` gives the module of an answer, so one that makes them by itself must not (requests_are_forged.txt,
+# found_is_forged.txt, answer_is_forged.txt, each in two). In a copy of the crates each is tried twice: as it stands, it
+# must be refused for that, at the lines that say so and at no other; and without the lines that make it an error it must
+# compile and run. Nothing is proved here.
 cd "$(dirname "$0")/.." || exit 1
 kept=$(mktemp -d) || exit 1
 trap 'rm -rf "$kept"' EXIT
@@ -44,3 +45,4 @@ must_not_compile() {
 must_not_compile view_is_kept module_graph 'borrow-e050[0-9]' 'uses the view'
 must_not_compile requests_are_forged 'shared_types es_module_parser' 'private-[a-z]*' 'is refused'
 must_not_compile found_is_forged 'tree_model web_url node_resolve' 'private-[a-z]*' 'is refused'
+must_not_compile answer_is_forged 'tree_model web_url node_resolve trace_walk' 'private-[a-z]*' 'is refused'

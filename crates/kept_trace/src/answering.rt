@@ -1,9 +1,9 @@
-ghost use Rattle.std.specs.Prelude.{◌≡◌, ◌≢◌, Ok, IfOk, IfErr};
+ghost use Rattle.std.specs.Prelude.{◌≢◌, IfErr};
 ghost use Rattle.node_resolve.specs.Places.{module_of};
 ghost use Rattle.node_resolve.specs.Responses.{responded};
 ghost use Rattle.package_lookup.specs.Responses.{fails, never};
 ghost use Rattle.trace_walk.specs.Kinds.{IsOfAnswers};
-ghost use Rattle.trace_walk.specs.Shown.{answer_of, resolutions};
+ghost use Rattle.trace_walk.specs.Shown.{resolutions};
 ghost use Rattle.kept_trace.specs.Sharing.{IsToldAs};
 
 use crate::kept::Kept;
@@ -13,7 +13,7 @@ use module_sources::{NoSource, Source};
 use node_resolve::{Found, NodeFault, resolve};
 use package_lookup::Lookup;
 use request_trace::{node_answer, source_answer};
-use shared_types::{Memory, Steps};
+use shared_types::Steps;
 use std::alloc::Global;
 use std::rc::Rc;
 use std::sync::ledger::Ledger;
@@ -93,17 +93,9 @@ fn shared_answer(
 {
     match found {
         Err(fault) => node_answer(Err(fault)),
-        Ok(found) => match copy_of(alloc, &found) {
+        Ok(found) => match found.module(alloc) {
             Err(_) => Err(TraceFault::Memory),
-            Ok(answer) => Ok(answer),
+            Ok(module) => Ok(NodeAnswer::Resolved(module)),
         },
     }
-}
-
-fn copy_of(alloc: Global, found: &Found) -> Result<NodeAnswer, Memory>
-    ensures { IfOk result (λ answer. answer_of answer ≡ Ok (module_of found.now)) }
-{
-    let path = found.path().copy(alloc)?;
-    let suffix = found.suffix().copy(alloc)?;
-    Ok(NodeAnswer::Resolved { path, suffix })
 }

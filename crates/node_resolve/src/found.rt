@@ -1,5 +1,7 @@
 ghost use Rattle.std.specs.Prelude.{◌≡◌, IfOk};
+ghost use Rattle.node_resolve.specs.Places.{module_of};
 
+use crate::resolved_module::ResolvedModule;
 use shared_types::Memory;
 use std::alloc::Global;
 use tree_model::{Path, Paths};
@@ -35,12 +37,24 @@ impl Found {
         &self.footprint
     }
 
-    /// The path, and the query and fragment.
-    pub fn into_parts(self) -> (Path, Suffix)
-        ensures path { result.0 ≡ self.path }
-        ensures suffix { result.1 ≡ self.suffix }
+    /// The module, as an answer.
+    pub fn into_module(self) -> ResolvedModule
+        ensures { result ≡ module_of self }
     {
-        (self.path, self.suffix)
+        ResolvedModule {
+            path: self.path,
+            suffix: self.suffix,
+        }
+    }
+
+    /// The module, as an answer that shares its memory.
+    pub fn module(&self, alloc: Global) -> Result<ResolvedModule, Memory>
+        ensures { IfOk result (λ resolved. resolved ≡ module_of self.now) }
+    {
+        Ok(ResolvedModule {
+            path: self.path.copy(alloc)?,
+            suffix: self.suffix.copy(alloc)?,
+        })
     }
 
     /// An equal one.

@@ -17,9 +17,11 @@ mod package_resolve;
 mod package_self_resolve;
 mod package_target_resolve;
 mod places;
+mod resolved_module;
 mod texts;
 
 pub use esm_resolve::resolve;
 pub use fault::NodeFault;
 pub use found::Found;
 pub use node_spec::Cause;
+pub use resolved_module::ResolvedModule;

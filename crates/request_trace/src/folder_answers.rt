@@ -83,10 +83,7 @@ pub fn node_answer(found: Result<Found, NodeFault>) -> Result<NodeAnswer, TraceF
     ensures kind { IfErr result IsOfAnswers }
 {
     match found {
-        Ok(found) => {
-            let (path, suffix) = found.into_parts();
-            Ok(NodeAnswer::Resolved { path, suffix })
-        }
+        Ok(found) => Ok(NodeAnswer::Resolved(found.into_module())),
         Err(NodeFault::Refused(cause)) => Ok(NodeAnswer::Refused { cause }),
         Err(NodeFault::ReadFault) => Err(TraceFault::ReadFault),
         Err(NodeFault::Limit { which }) => limit_answer(which),

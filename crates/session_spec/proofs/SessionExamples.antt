@@ -33,7 +33,7 @@ use Rattle.session_spec.specs.WorkedExamples.{LineExamples, TurnExamples, EntryE
 use Rattle.session_spec.specs.WorkedExamples.{put_at, drop_at, unlink_of, rest_of, state_of}
 
 pub line_examples : LineExamples
-unfolding is_utf8 chars lib.Utf8.encode
+unfolding is_utf8 chars lib.Utf8.encode digits
 line_examples = record {
   put = refl;
   put_line_end = refl;

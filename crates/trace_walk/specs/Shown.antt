@@ -33,7 +33,7 @@ abbrev pub sources : Result (Result Source NoSource) TraceFault → Result (Resu
 sources result = shown_by source_in result
 
 abbrev pub answer_of : NodeAnswer → Result Module Refusal
-answer_of (Resolved path suffix) = Ok (record { path = path; suffix = suffix })
+answer_of (Resolved target) = Ok target
 answer_of (Refused cause) = Err (by_cause cause)
 answer_of TooDeep = Err too_deep
 

@@ -6,17 +6,17 @@ ghost use Rattle.trace_walk.specs.Shown.{sources, resolutions};
 
 use condition_match::Conditions;
 use module_sources::{NoSource, Source};
+use node_resolve::ResolvedModule;
 use node_spec::Cause;
 use std::alloc::Global;
 use trace_spec::TraceFault;
 use tree_model::Path;
-use web_url::Suffix;
 
-/// What Node's resolver answers for a request.
+/// What Node's resolver answers for a request. Only the resolver makes the module of an answer.
 #[derive(Drop)]
 pub enum NodeAnswer {
     /// A module.
-    Resolved { path: Path, suffix: Suffix },
+    Resolved(ResolvedModule),
     /// None, for this cause.
     Refused { cause: Cause },
     /// None: a package.json on the way has more open brackets than are read.

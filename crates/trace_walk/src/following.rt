@@ -44,7 +44,8 @@ pub(crate) fn follow<A: Answerer>(
     let asked = check(alloc, tables.targets.len(), referrer, specifier)?;
     let conditions = config.conditions();
     match answerer.request(alloc, conditions, &referrer.path, specifier.as_str())? {
-        NodeAnswer::Resolved { path, suffix } => {
+        NodeAnswer::Resolved(module) => {
+            let (path, suffix) = module.into_parts();
             let target = Module::new(path, suffix);
             tables.put(alloc, config, referrer, specifier, asked, target)
         }

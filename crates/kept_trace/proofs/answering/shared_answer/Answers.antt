@@ -5,8 +5,8 @@ use Rattle.kept_trace.proofs.answering.shared_answer.Goals as goal
 pub returns-in-Err-clause-is : goal.returns-in-Err-clause-is
 returns-in-Err-clause-is c = inl (rw c.in-Err.is c.node_answer.ensures.is)
 
-pub returns-in-Err-copy_of-clause-is : goal.returns-in-Err-copy_of-clause-is
-returns-in-Err-copy_of-clause-is c = inr (Ok (module_of c.in-Ok.found.value), rw c.in-Ok.is refl, refl)
+pub returns-in-Err-module-clause-is : goal.returns-in-Err-module-clause-is
+returns-in-Err-module-clause-is c = inr (Ok (module_of c.in-Ok.found.value), rw c.in-Ok.is refl, refl)
 
 pub returns-clause-is : goal.returns-clause-is
-returns-clause-is c = inl (rw c.in-Ok.is (ap Ok (rw c.deref.ensures at c.in-Ok-copy_of.ensures)))
+returns-clause-is c = inl (rw c.in-Ok.is (ap Ok (ap Ok (rw c.deref.ensures at c.in-Ok-module.ensures))))
