@@ -11,20 +11,23 @@ use Rattle.tree_spec.specs.States.{FolderState, SourceState, SinkState}
 use Rattle.tree_spec.specs.Trees.{Tree}
 use Rattle.tree_spec.specs.declared.LimitName.TheVariants.{Session as Limited}
 use Rattle.tree_spec.proofs.ToldStates.{if_some, if_two, if_all}
-use Rattle.trace_spec.specs.Laws.{IsLookedAt, asked_by_end}
+use Rattle.trace_spec.specs.Laws.{IsLookedAt}
 use Rattle.trace_spec.specs.Modules.{Config}
 use Rattle.config_spec.specs.Projects.{IsConfigOf}
+use Rattle.config_spec.specs.declared.Command.{Command}
 use Rattle.config_spec.specs.declared.Command.TheVariants.{Refresh}
 use Rattle.generation.specs.Generating.{AsksNoPathTwice, AsksFootprint, StepsToEnd}
 use Rattle.generation.specs.declared.stop.Stop.{Stop}
 use Rattle.generation.specs.declared.stop.Stop.TheVariants as stop
 use Rattle.generator_spec.proofs.Configs.{one_config}
+use Rattle.generator_spec.proofs.CountedQuestions.{always_asked}
 use Rattle.generator_spec.specs.Asked.{IsConfigAt}
+use Rattle.generator_spec.specs.Commands.{IsMapping as mapping, Opens as opens}
 use Rattle.generator_spec.specs.Ending.{CanRefuse as can}
 use Rattle.generator_spec.specs.Lines.{status_of, line_of, limit_line, memory_line, read_fault_line}
 use Rattle.generator_spec.specs.Outcome.{RefusesRun, by_tree}
 use Rattle.generator_spec.specs.Statuses.{memory_status, read_fault_status}
-use Rattle.generator_spec.specs.Steps.{TraceSpends}
+use Rattle.generator_spec.specs.Steps.{SpendsByTrace, TraceSpends}
 use Rattle.package_lookup.specs.Looked.{kept_at}
 use Rattle.soundness.proofs.SessionMaps.{session_maps_serve}
 use Rattle.session_input.proofs.ReaderLemmas.{takes_none}
@@ -282,14 +285,21 @@ module _ (config : Config) (session : Session) where
 few_sum : (spent mid after most some : ℕ) → mid ≤ spent + most → after ≤ mid + some → after ≤ spent + most + some
 few_sum spent mid after most some one other = omega (arith, one, other)
 
--- the words ask for one config
+-- the words ask for one config, and need nothing before the trace
 opening_spends : (config : Config) (before : FolderState) (spent mid : ℕ) → IfSome before.holds (λ tree. IsConfigOf refresh_words tree Refresh config) → StepsToEnd config before.holds spent mid
     → IfSome before.holds (λ tree. TraceSpends refresh_words tree spent mid)
 opening_spends config before spent mid is_config few =
-    if_two before.holds (λ tree is each. λ command other asked are by_end.
-    let same = one_config refresh_words tree Refresh command config other is are in
-    let some = each asked (subst (λ (c : Config). asked_by_end (get tree) c ≡ Some asked) (sym same.one_config) by_end) in
-    omega (arith, some)) is_config few
+    if_two before.holds (λ tree is each. record {
+      by_config = λ command other are.
+          let same = one_config refresh_words tree Refresh command config other is are in
+          let all = always_asked (get tree) config in
+          let some = each all.asked all.are in
+          let here : SpendsByTrace tree Refresh config spent mid =
+          record { asked = all.asked; are = all.are; few = omega (arith, some); opened = inr (opens.nothing Refresh mapping.refresh) } in
+          subst (λ (one : Command). SpendsByTrace tree one other spent mid) same.one_command
+          (subst (λ (one : Config). SpendsByTrace tree Refresh one spent mid) same.one_config here);
+      no_config = λ none no_measure. absurd (none Refresh config is);
+    }) is_config few
 
 module _ (spent mid : ℕ) (few : mid ≤ spent + most_steps) where
   spends_none : SessionSpends [] spent mid

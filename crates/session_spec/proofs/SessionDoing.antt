@@ -12,7 +12,9 @@ use Rattle.session_spec.specs.Edits.{edited}
 use Rattle.session_spec.specs.Laws.{DoingsTalk}
 use Rattle.session_spec.specs.Replies as replies
 use Rattle.session_spec.specs.Replies.{Replies}
+use Rattle.generator_spec.proofs.CountedQuestions.{none_by_words}
 use Rattle.session_spec.specs.SessionDoings.{Display, DoesEdit, DoesEdit as does_edit, Done, Does, begun, edits, collects, shows_it, EditsDo, stands, stops, SessionDoes, unshown}
+use Rattle.session_spec.specs.Openings.{refresh_words}
 use Rattle.session_spec.specs.SessionStates.{SessionState, draft_of}
 use Rattle.session_spec.specs.Showings.{Shown}
 use Rattle.session_spec.specs.Talks as talks
@@ -23,7 +25,7 @@ use Rattle.session_spec.proofs.Replying.{replies_accepted}
 use Rattle.session_spec.proofs.Talking.{with_more, talks_then, allowed_front}
 
 nothing_done : (tree : Tree) (taken : List ℕ) (spent : ℕ) → SessionDoes tree taken spent [] spent []
-nothing_done tree taken spent = unshown spent (λ command config asked is by_end. omega arith)
+nothing_done tree taken spent = unshown spent (none_by_words refresh_words tree spent)
 
 pub none_done : (told : Option Tree) (taken : List ℕ) (spent : ℕ) → IfSome told (λ tree. SessionDoes tree taken spent [] spent [])
 none_done told taken spent = if_all told (λ tree. nothing_done tree taken spent)
