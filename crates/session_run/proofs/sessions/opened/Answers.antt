@@ -9,9 +9,9 @@ shown-requires g c = watch_live c.args.session c.slots.result.now c.slots.ensure
 
 pub returns-in-Err-clause-ends : goal.returns-in-Err-clause-ends
 returns-in-Err-clause-ends g c =
-    unshown refl refl c.in-Err.ensures refl
+    unshown refl refl c.in-Err.ensures.stays refl
     (subst (λ line. Ends 8 line (g.O.Sink.state c.args.out.now) (g.O.Sink.state c.tell.new.out) c.tell.result) c.memory_line.ensures c.tell.ensures.ends)
 
 pub returns-in-Ok-clause-ends : goal.returns-in-Ok-clause-ends
 returns-in-Ok-clause-ends g c =
-    shown (g.W.Watch.seen c.shown.new.self) (watch_shown c.args.session c.slots.result.now c.slots.ensures.slots _ c.view.ensures _ _ c.in-Ok.ensures) c.shown-in-Ok.ensures.ends
+    shown (g.W.Watch.seen c.shown.new.self) (watch_shown c.args.session c.slots.result.now c.slots.ensures.slots _ c.view.ensures _ _ c.in-Ok.ensures.sees) c.shown-in-Ok.ensures.ends
