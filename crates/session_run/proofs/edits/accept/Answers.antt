@@ -16,4 +16,4 @@ pub returns-in-Err-clause-says : goal.returns-in-Err-clause-says
 returns-in-Err-clause-says g c = unshown c.in-Err.ensures.stays refl
 
 pub shown-requires : goal.shown-requires
-shown-requires g c = watch_live c.commit.new.self c.slots.result.now c.slots.ensures.slots _ c.view.ensures c.slots.ensures.live
+shown-requires g c = record { live = watch_live c.commit.new.self c.slots.result.now c.slots.ensures.slots _ c.view.ensures c.slots.ensures.live }

@@ -5,7 +5,7 @@ use Rattle.session_run.proofs.EditLemmas.{watch_live, watch_shown}
 use Rattle.session_run.proofs.sessions.opened.Goals as goal
 
 pub shown-requires : goal.shown-requires
-shown-requires g c = watch_live c.args.session c.slots.result.now c.slots.ensures.slots _ c.view.ensures c.slots.ensures.live
+shown-requires g c = record { live = watch_live c.args.session c.slots.result.now c.slots.ensures.slots _ c.view.ensures c.slots.ensures.live }
 
 pub returns-in-Err-clause-ends : goal.returns-in-Err-clause-ends
 returns-in-Err-clause-ends g c =
