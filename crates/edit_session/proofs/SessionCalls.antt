@@ -403,12 +403,12 @@ committed_same old new there none known config generated answers shown = record 
         shows = (subst (λ (p : Prepared). ShowsThen old p next) same is_next.shows).shows;
         sources = (subst (λ (p : Prepared). ShowsThen old p next) same is_next.shows).sources;
       }));
-  slots = λ tree state next is is_next few.
-      subst (KeepsSlots state.tree (showing_in old) next.tree)
+  slots = λ tree state next is is_next. inl
+      (subst (KeepsSlots state.tree (showing_in old) next.tree)
       (sym (ap (λ (s : Shows). showing_of s.links.graph s.links.slots) shown))
       (showing_itself (length state.config.entries) is.current.generates.all (showing_in old)
       (is.shows is.current.generates.all is.current.generates.is_traced)
-      (modules_once (get state.tree) state.config is.current.generates.all is.current.generates.is_traced) state.tree next.tree);
+      (modules_once (get state.tree) state.config is.current.generates.all is.current.generates.is_traced) state.tree next.tree));
   steps = λ other e.
       subst (λ (p : Prepared). BecomesBy old p new) (same_prepared Same other old.pending there e)
       (record { laid = ap (λ (k : Known). k.laid) known; config = config; generated = generated; shown = ap (λ (s : Shows). s.links) shown });

@@ -2,7 +2,7 @@
 --     shown_there         what is shown at a place
 --     next_showing        what stays in both trees has one slot
 --     showing_itself      where nothing else is shown
-use Rattle.std.proofs.Common.{◌≡◌, ◌≤◌, ◌<◌, ◌+◌, ℕ, zero, suc, List, [], ◌∷◌, length, map, Option, Some, None, Ok, refl, sym, ap, ◌∙◌, subst, arith}
+use Rattle.std.proofs.Common.{◌≡◌, ◌≤◌, ◌<◌, ◌⊎◌, ◌+◌, ℕ, zero, suc, List, [], ◌∷◌, length, map, Option, Some, None, Ok, refl, sym, ap, ◌∙◌, subst, inl, inr, arith}
 use Rattle.std.specs.FinMap.{get}
 use Rattle.std.specs.Prelude.{All, slice_get, option_map}
 use Rattle.std.proofs.lemmas.List.{length-map}
@@ -26,13 +26,16 @@ use Rattle.trace_spec.specs.Traces.{traced, source}
 use Rattle.trace_spec.proofs.Sources.{sources_are_read}
 use Rattle.trace_spec.proofs.Traces.{modules_once, few_modules, goes_in_order}
 use Rattle.trace_graph.specs.Links.{Links, IsLive, module_in, source_in, modules_of, sources_of}
-use Rattle.graph_repair.specs.Matching.{AreOnce, IsAlike}
+use Rattle.graph_repair.specs.Matching.{AreOnce, missing, IsAlike}
 use Rattle.graph_repair.specs.Neighbours.{LastsBetween}
 use Rattle.graph_repair.specs.Repairs.{Repairs}
+use Rattle.graph_repair.proofs.Filling.{missing_few}
+use Rattle.graph_repair.proofs.Joining.{kept_count}
 use Rattle.graph_repair.proofs.Neighbours.{slots_last}
-use Rattle.session_spec.specs.Showings.{Shown, module_shown, ShowsTrace, KeepsSlots, NextShowing, most_made}
+use Rattle.slot_arena.proofs.Times.{below_or_not}
+use Rattle.session_spec.specs.Showings.{Shown, module_shown, ShowsTrace, KeepsSlots, most_made}
 use Rattle.session_watch.specs.Seen.{shown_at, showing_of}
-use Rattle.edit_session.specs.Shown.{Shows, AreLinksOf, IsShownOf, PlansFor, IsNextShown}
+use Rattle.edit_session.specs.Shown.{Shows, AreLinksOf, IsShownOf, PlansFor, IsNextShown, SlotsGo}
 use Rattle.edit_session.proofs.ShownTraces.{module_of_shown, slot_of_shown, modules_shown}
 
 abbrev Vertex : Type 0
@@ -105,7 +108,7 @@ live_at g slots i s at all = subst (IsLive g) (get_or_from_slice_get slots i s s
 module _ (now : Shows) (new : Links) (tree later : Tree) (config next_config : Config) (shown : IsShownOf tree config now.links)
     (all : Gathered) (is_all : traced (get tree) config ≡ Ok all) (plans : PlansFor (λ P. P later) next_config now)
     (other : Gathered) (is_other : traced (get later) next_config ≡ Ok other) (next : IsNextShown now.links plans.plan new)
-    (few : length now.links.graph + limit_number Modules < most_made) where
+    where
   abbrev old : Links
   old = now.links
 
@@ -130,17 +133,17 @@ module _ (now : Shows) (new : Links) (tree later : Tree) (config next_config : C
   once_behind : AreOnce (modules_of plans.links)
   once_behind = subst AreOnce (sym links_so.modules) (modules_once (get later) next_config other is_other)
 
-  lasts : LastsBetween old new
-  lasts =
-      slots_last plans.made old plans.links new next.linked plans.linked repairs_so
-      (let many = ap length links_so.modules in
+  missing_within : plans.made + missing repairs_so.keeps ≤ length old.graph + limit_number Modules
+  missing_within =
+      let many = ap length links_so.modules in
       let same = length-map plans.links.slots (λ s. module_in (value_at plans.links.graph s)) in
       let most : length other.modules ≤ limit_number Modules = few_modules (get later) next_config other is_other in
+      let some = missing_few repairs_so.keeps in
+      let count = kept_count old.graph plans.links.graph repairs_so.keeps plans.links.slots repairs_so.matching.kept in
       let within = plans.within in
-      omega (arith, few, many, same, most, within))
-      once_before once_behind
+      omega (arith, many, same, most, some, count, within)
 
-  module _ (i j : ℕ) (v w : Shown) (here : IsShownAt old.graph old.slots i v) (there : IsShownAt new.graph new.slots j w) where
+  module _ (lasts : LastsBetween old new) (i j : ℕ) (v w : Shown) (here : IsShownAt old.graph old.slots i v) (there : IsShownAt new.graph new.slots j w) where
     abbrev before : Option Vertex
     before = value_at old.graph here.slot
 
@@ -196,20 +199,24 @@ module _ (now : Shows) (new : Links) (tree later : Tree) (config next_config : C
         ∙ (alike_module before (value_at new.graph here.slot) alike
         ∙ (ap (λ s. module_in (value_at new.graph s)) (sym one) ∙ sym module_behind))
 
-  keeps_slots : KeepsSlots tree (showing_of old.graph old.slots) later (showing_of new.graph new.slots)
-  keeps_slots = record {
+  keeps_slots : LastsBetween old new → KeepsSlots tree (showing_of old.graph old.slots) later (showing_of new.graph new.slots)
+  keeps_slots lasts = record {
     kept = λ i j v w at there.
-        kept_so i j v w (shown_there old.graph old.slots i v at) (shown_there new.graph new.slots j w there);
+        kept_so lasts i j v w (shown_there old.graph old.slots i v at) (shown_there new.graph new.slots j w there);
     apart = λ i j v w at there.
-        apart_so i j v w (shown_there old.graph old.slots i v at) (shown_there new.graph new.slots j w there);
+        apart_so lasts i j v w (shown_there old.graph old.slots i v at) (shown_there new.graph new.slots j w there);
   }
+
+  slots_go : (plans.made + missing repairs_so.keeps < most_made) ⊎ (most_made ≤ plans.made + missing repairs_so.keeps) → SlotsGo old new tree later
+  slots_go (inl few) = inl (keeps_slots (slots_last plans.made old plans.links new next.linked plans.linked repairs_so few once_before once_behind))
+  slots_go (inr full) = inr (let within = missing_within in (omega (arith, within, full), repairs_so.renewed full))
 
 pub next_showing : (now : Shows) (new : Links) (tree later : Tree) (config next_config : Config) → IsShownOf tree config now.links
     → (all : Gathered) → traced (get tree) config ≡ Ok all → (plans : PlansFor (λ P. P later) next_config now)
-    → (other : Gathered) → traced (get later) next_config ≡ Ok other → IsNextShown now.links plans.plan new
-    → NextShowing (length now.links.graph) tree (showing_of now.links.graph now.links.slots) later (showing_of new.graph new.slots)
-next_showing now new tree later config next_config shown all is_all plans other is_other next few =
-    keeps_slots now new tree later config next_config shown all is_all plans other is_other next few
+    → (other : Gathered) → traced (get later) next_config ≡ Ok other → IsNextShown now.links plans.plan new → SlotsGo now.links new tree later
+next_showing now new tree later config next_config shown all is_all plans other is_other next =
+    slots_go now new tree later config next_config shown all is_all plans other is_other next
+    (below_or_not (plans.made + missing (repairs_so now new tree later config next_config shown all is_all plans other is_other next).keeps) most_made)
 
 -- ---- where nothing else is shown
 

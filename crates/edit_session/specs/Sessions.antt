@@ -29,10 +29,10 @@ use Rattle.session_spec.specs.Edits.{Draft, edited}
 use Rattle.session_spec.specs.Replies.{IsRefused, IsAccepted, fault_line}
 use Rattle.session_spec.specs.SessionStates.{SessionState, draft_of, config_with}
 use Rattle.graph_repair.specs.declared.parts.Plan.{Plan}
-use Rattle.session_spec.specs.Showings.{NextShowing, made_at_once}
+use Rattle.session_spec.specs.Showings.{made_at_once}
 use Rattle.edit_session.specs.NewLooks.{AsksKept, LooksNew}
-use Rattle.edit_session.specs.Shown.{KeepsShown, IsNextShown, NoMorePlaces}
-use Rattle.edit_session.specs.SessionTrees.{IsSessionOf, IsPendingOf, shown_in, showing_in}
+use Rattle.edit_session.specs.Shown.{KeepsShown, IsNextShown, NoMorePlaces, SlotsGo}
+use Rattle.edit_session.specs.SessionTrees.{IsSessionOf, IsPendingOf, shown_in}
 use Rattle.edit_session.specs.declared.session.Pending.{Pending}
 use Rattle.edit_session.specs.declared.session.Prepared.{Prepared}
 use Rattle.edit_session.specs.declared.session.Prepared.TheVariants.{Same, Changed}
@@ -155,7 +155,7 @@ pub record Commits (old new : Session) : Type 0 where
       → IsSessionOf tree new next
   pub slots :
       (tree : Tree) (state next : SessionState) → IsSessionOf tree old state → IsPendingOf tree old next
-      → NextShowing (length (shown_in old).graph) state.tree (showing_in old) next.tree (showing_in new)
+      → SlotsGo (shown_in old) (shown_in new) state.tree next.tree
   pub steps : (prepared : Prepared) → old.pending ≡ Some prepared → BecomesBy old prepared new
   pub kept : (path : List ℕ) → kept_at new.known path ≡ kept_at old.known path
   pub nothing_pending : new.pending ≡ None

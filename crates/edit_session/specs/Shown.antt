@@ -11,10 +11,13 @@
 --     PlansFor If config now          the plan is one for the trace of the tree of which `If` speaks; when it was made,
 --                                     there weren't more places
 --     IsNextShown old plan new        what is shown then
+--     SlotsGo old new tree later      which slots stay between what is shown of two trees
 --     NoMorePlaces old new            no place was made, except those of a new graph
 use Rattle.std.specs.Prelude.{◌≡◌, ◌⊎◌, ◌≤◌, ◌+◌, ⊤, ℕ, length, Option, Some, None, Ok}
 use Rattle.std.specs.FinMap.{get}
+use Rattle.tree_spec.specs.Limits.{limit_number}
 use Rattle.tree_spec.specs.Trees.{Tree}
+use Rattle.tree_spec.specs.declared.LimitName.TheVariants.{Modules}
 use Rattle.trace_spec.specs.Checks.{Gathered}
 use Rattle.trace_spec.specs.Modules.{Config}
 use Rattle.trace_spec.specs.Traces.{traced}
@@ -25,7 +28,7 @@ use Rattle.request_trace.specs.Showing as tracing
 use Rattle.request_trace.specs.Showing.{Traced}
 use Rattle.graph_repair.specs.Repairs.{Repairs, ShowsSame}
 use Rattle.graph_repair.specs.declared.parts.Plan.{Plan}
-use Rattle.session_spec.specs.Showings.{IsShowingOf, made_at_once}
+use Rattle.session_spec.specs.Showings.{IsShowingOf, KeepsSlots, most_made, made_at_once}
 use Rattle.session_watch.specs.Seen.{showing_of}
 
 pub record KeepsShown (old new : Links) : Type 0 where
@@ -85,3 +88,9 @@ pub record IsNextShown (old : Links) (plan : Plan) (new : Links) : Type 0 where
 
 abbrev pub NoMorePlaces : Links → Links → Type 0
 NoMorePlaces old new = (length new.graph ≡ length old.graph) ⊎ (length new.graph ≤ made_at_once)
+
+-- own: no slot stands for two modules, unless another graph was begun, since the places of this one may reach the most
+abbrev pub SlotsGo : Links → Links → Tree → Tree → Type 0
+SlotsGo old new tree later =
+    KeepsSlots tree (showing_of old.graph old.slots) later (showing_of new.graph new.slots)
+    ⊎ ((most_made ≤ length old.graph + limit_number Modules) × (length new.graph ≤ made_at_once))

@@ -1,7 +1,7 @@
 mod AskedAlike
 mod GivenSlots
-mod Filling
-mod Joining
+pub mod Filling
+pub mod Joining
 mod Led
 mod FoundModules
 mod KeyedPlaces

@@ -9,10 +9,9 @@ use Rattle.slot_arena.specs.declared.slot.Slot.{Slot}
 use Rattle.slot_arena.proofs.SlotLaws.{is_given}
 use Rattle.module_graph.specs.declared.module.Module as vertex
 use Rattle.trace_graph.specs.Links.{Links, IsLinked, IsLive, module_in, source_in, modules_of}
-use Rattle.graph_repair.specs.Matching.{AreOnce, filled, IsAlike, AreKept}
+use Rattle.graph_repair.specs.Matching.{AreOnce, missing, filled, IsAlike, AreKept}
 use Rattle.graph_repair.specs.Neighbours.{SlotsLast}
 use Rattle.graph_repair.specs.Repairs.{Repairs, Lasts, most_made}
-use Rattle.graph_repair.proofs.Filling.{missing_few}
 use Rattle.graph_repair.proofs.Joining.{kept_count}
 use Rattle.graph_repair.proofs.Led.{at_place}
 
@@ -98,12 +97,12 @@ alike_then (Some v) (Some u) (Some x) alike modules sources w is =
 -- ---- both
 
 module _ (made : ℕ) (old l new : Links) (linked : IsLinked old) (traced : IsLinked l) (repairs : Repairs made old l new)
-    (few : made + length l.slots < most_made) where
+    (few : made + missing repairs.keeps < most_made) where
   count : length repairs.keeps ≡ length l.slots
   count = kept_count old.graph l.graph repairs.keeps l.slots repairs.matching.kept
 
   lasts : Lasts old new repairs.keeps
-  lasts = repairs.lasts (let most = missing_few repairs.keeps in let same = count in omega (arith, few, most, same))
+  lasts = repairs.lasts few
 
   full : length (filled repairs.keeps lasts.given) ≡ length repairs.keeps
   full = sym (ap length lasts.slots) ∙ (repairs.copy.count ∙ sym count)

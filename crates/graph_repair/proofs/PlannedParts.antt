@@ -149,6 +149,10 @@ places_by : (old : Places) (begun : Option Places) (n : ℕ) → IfSome begun (�
 places_by old None n few is = inl is
 places_by old (Some g) n few is = inr (omega (arith, few, is))
 
+renewed_by : (old : Places) (begun : Option Places) (n : ℕ) → IfSome begun (λ g. length g ≤ most_at_once) → n ≡ length (base old begun) → (begun ≡ None → ⊥) → n ≤ most_at_once
+renewed_by old None n few is other = absurd (other refl)
+renewed_by old (Some g) n few is other = omega (arith, few, is)
+
 pub repairs_by : (made : ℕ) (old l : Links) (plan : Plan) (new : Links) → IsPlanned made old l plan → IsRepaired (base old.graph plan.begun) l plan.parts new
     → Repairs made old l new
 repairs_by made old l plan new planned repaired = record {
@@ -166,6 +170,7 @@ repairs_by made old l plan new planned repaired = record {
         never = subst (λ g. All (λ s. IsGiven g s → ⊥) repaired.lasts.given) same repaired.lasts.never;
       });
   places = places_by old.graph plan.begun (length new.graph) planned.few repaired.made;
+  renewed = λ full. renewed_by old.graph plan.begun (length new.graph) planned.few repaired.made (λ none. (let few = planned.renews.0 none in omega (arith, few, full)));
 }
 
 -- ---- a graph that shows the same

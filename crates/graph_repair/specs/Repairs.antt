@@ -61,3 +61,4 @@ pub record Repairs (made : ℕ) (old l new : Links) : Type 0 where
   pub matching : IsMatching old l keeps
   pub lasts : made + missing keeps < most_made → Lasts old new keeps
   pub places : (length new.graph ≡ length old.graph) ⊎ (length new.graph ≤ most_at_once)
+  pub renewed : most_made ≤ made + missing keeps → length new.graph ≤ most_at_once

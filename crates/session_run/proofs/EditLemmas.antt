@@ -29,7 +29,7 @@ use Rattle.session_spec.proofs.SessionSpending.{few_by_none}
 use Rattle.request_trace.specs.Tracing.{TakesSteps}
 use Rattle.edit_session.specs.NewLooks.{AsksNew as LooksAsked, LooksNew}
 use Rattle.edit_session.specs.Sessions.{Accepts, Prepares, BecomesBy, Commits}
-use Rattle.edit_session.specs.Shown.{KeepsShown}
+use Rattle.edit_session.specs.Shown.{KeepsShown, SlotsGo}
 use Rattle.edit_session.specs.SessionTrees.{IsSessionOf, IsPendingOf, shown_map, shown_counts, shown_in, showing_in, steps_in, pending_steps}
 use Rattle.edit_session.specs.declared.session.Prepared.{Prepared}
 use Rattle.edit_session.specs.declared.session.Prepared.TheVariants.{Same, Changed}
@@ -214,12 +214,12 @@ module _ (before after : FolderState) (old new : Session) (edit : List Change) (
     graph_goes : (tree : Tree) (state next : SessionState) → IsSessionOf tree new state → IsPendingOf tree new next → GraphGoes state next view.display (display_of closed)
     graph_goes tree state next stands pending = goes (commits.slots tree state next stands pending)
       where
-        few : length (shown_in new).graph ≤ view.display.made + made_at_once
-        few = (stays_shown old new view.display is.display prepares.shown).few
+        places : length (shown_in new).graph ≤ view.display.made + made_at_once
+        places = (stays_shown old new view.display is.display prepares.shown).few
 
-        goes : KeepsSlots state.tree (showing_in new) next.tree (showing_in closed) ⊎ ((most_made ≤ length (shown_in new).graph + limit_number Modules) × (length (shown_in closed).graph ≤ made_at_once)) → GraphGoes state next view.display (display_of closed)
+        goes : SlotsGo (shown_in new) (shown_in closed) state.tree next.tree → GraphGoes state next view.display (display_of closed)
         goes (inl keeps) = goes_on (subst (λ (showing : List Shown). KeepsSlots state.tree showing next.tree (showing_in closed)) same_before keeps)
-        goes (inr anew) = (let full = anew.0 in let fewer = few in begins_anew (omega (arith, full, fewer)) anew.1)
+        goes (inr anew) = (let full = anew.0 in let fewer = places in begins_anew (omega (arith, full, fewer)) anew.1)
 
     shows_next : (tree : Tree) (state next : SessionState) → IsSessionOf tree new state → (pending : IsPendingOf tree new next) → IsSessionOf tree closed next → ShowsNext state next view.display (display_of closed)
     shows_next tree state next stands pending later = record {

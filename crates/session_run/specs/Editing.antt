@@ -1,7 +1,7 @@
 -- A session as one that makes edits.
 --     IsToldBy folder session told    a tree that the folder tells stands behind the session, and this is its state
 --     display_of session              what it shows of its modules
---     IsViewOf folder session seen steps view     the same, with the looks that failed, the paths that the folder was
+--     IsViewOf folder session watched steps view     the same, with the looks that failed, the paths that the folder was
 --                                     asked for, what is shown and what the watch was shown, and the steps that were
 --                                     taken
 --     look_state references folder session    what the folder tells, and what the session keeps of it
@@ -40,14 +40,14 @@ IsToldBy folder session (Some state) = StandsOn folder session state
 abbrev pub display_of : Session → Display
 display_of session = record { made = length (shown_in session).graph; shown = showing_in session }
 
-pub record IsViewOf (folder : FolderState) (session : Session) (seen : Option (List (List Shown))) (steps : ℕ)
+pub record IsViewOf (folder : FolderState) (session : Session) (watched : Option (List (List Shown))) (steps : ℕ)
     (view : EditorState) : Type 0 where
   pub told : IsToldBy folder session view.told
   pub faults : view.faults ≡ folder.look_faults
   pub asked : view.asked ≡ folder.asked
   pub spent : view.spent ≡ steps
   pub display : view.display ≡ display_of session
-  pub seen : view.seen ≡ seen
+  pub seen : view.seen ≡ watched
 
 abbrev pub look_state : List ℕ → FolderState → Session → LookState
 look_state references folder session =
