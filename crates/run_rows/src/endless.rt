@@ -2,6 +2,7 @@
 ghost use Rattle.std.specs.Prelude.{◌≡◌, ◌<◌};
 
 use generator_core::run;
+use session_watch::Unwatched;
 use shared_types::{Bytes, Memory, Steps};
 use std::alloc::Global;
 use std::marker::Brand;
@@ -86,7 +87,15 @@ fn status_of<L: Ledger>(
 {
     let mut folder = Endless;
     let mut steps = Steps::<L>::start(blank);
-    run(alloc, words.as_slice(), &mut folder, input, out, &mut steps)
+    run(
+        alloc,
+        words.as_slice(),
+        &mut folder,
+        input,
+        out,
+        &mut Unwatched,
+        &mut steps,
+    )
 }
 
 /// How `link` ends over such a folder: its status, and what it says.

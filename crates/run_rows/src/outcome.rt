@@ -21,6 +21,7 @@ fn status_of<L: Ledger>(alloc: Global, words: &[String], outside: &mut Outside, 
         &mut outside.folder,
         &mut outside.input,
         &mut outside.out,
+        &mut outside.watch,
         &mut steps,
     )
 }
