@@ -27,6 +27,8 @@ pub(crate) enum Head<'a> {
     Wanted(&'a str),
     Change(&'a str),
     Looks,
+    /// Nothing, or `never`.
+    Shown(&'a str),
     Each(&'a str),
     /// None of these.
     Unknown,
@@ -70,6 +72,7 @@ fn marked<'a>(mark: &'a str, rest: &'a str) -> Head<'a> {
         "=>" => Head::Wanted(rest),
         "+" => Head::Change(rest),
         "looks" => looks(rest),
+        "shown" => shown(rest),
         "each" => Head::Each(rest),
         _ => entries(mark, rest),
     }
@@ -88,6 +91,14 @@ fn then(rest: &str) -> Head<'_> {
 fn looks(rest: &str) -> Head<'_> {
     if rest.is_empty() {
         Head::Looks
+    } else {
+        Head::Unknown
+    }
+}
+
+fn shown(rest: &str) -> Head<'_> {
+    if rest.is_empty() || rest == "never" {
+        Head::Shown(rest)
     } else {
         Head::Unknown
     }

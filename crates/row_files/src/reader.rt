@@ -216,6 +216,7 @@ impl Reader {
             Head::Cut(cut) => self.cut(alloc, item, cut),
             Head::Wanted(text) => self.want(alloc, item, text),
             Head::Looks => self.look(alloc, item),
+            Head::Shown(rest) => self.show(alloc, item, rest),
             Head::Each(turns) => self.turn(alloc, item, turns),
             _ => Err(malformed("a line is none of the form")),
         }
@@ -383,19 +384,30 @@ impl Reader {
     // The block has a path on each line.
     fn look(&mut self, alloc: Global, item: &Item) -> Result<(), RowFault> {
         let mut looks = Vec::new(alloc);
-        if let Some(block) = &item.block {
-            let Ok(paths) = std::str::from_utf8(block.as_slice()) else {
-                return Err(malformed("bytes are no text"));
-            };
-            for path in paths.lines() {
-                looks.push(String::from_str(alloc, path)?)?;
-            }
+        for path in text_of(alloc, item)?.lines() {
+            looks.push(String::from_str(alloc, path)?)?;
         }
         let run = last_of(&mut self.runs)?;
         if run.looks.is_some() {
             return Err(malformed("a run's looks stand twice"));
         }
         run.looks = Some(looks);
+        Ok(())
+    }
+
+    // A showing, whose block has a module on each line; or `never`.
+    fn show(&mut self, alloc: Global, item: &Item, rest: &str) -> Result<(), RowFault> {
+        let text = text_of(alloc, item)?;
+        let run = last_of(&mut self.runs)?;
+        match &mut run.shown {
+            None if rest.is_empty() => run.shown = Some(vec![in alloc; text]?),
+            None => {
+                item.without_block()?;
+                run.shown = Some(Vec::new(alloc));
+            }
+            Some(shown) if rest.is_empty() && !shown.is_empty() => shown.push(text)?,
+            Some(_) => return Err(malformed("a run shows something and never anything")),
+        }
         Ok(())
     }
 
@@ -413,6 +425,17 @@ impl Reader {
             wanted,
         })?;
         Ok(())
+    }
+}
+
+// The text of a block; an empty one where there is none.
+fn text_of(alloc: Global, item: &Item) -> Result<String, RowFault> {
+    let Some(block) = &item.block else {
+        return Ok(String::new(alloc));
+    };
+    match std::str::from_utf8(block.as_slice()) {
+        Ok(text) => Ok(String::from_str(alloc, text)?),
+        Err(_) => Err(malformed("bytes are no text")),
     }
 }
 

@@ -33,6 +33,8 @@ pub struct Run {
     pub changes: Vec<Change>,
     /// The paths at which it looks, where they are told.
     pub looks: Option<Vec<String>>,
+    /// What a watch is shown, where it is told: a text for each showing, with a module on each line.
+    pub shown: Option<Vec<String>>,
     /// Calls that fail in turn.
     pub turns: Vec<Turns>,
 }
@@ -159,6 +161,7 @@ impl Run {
             wanted: None,
             changes: Vec::new(alloc),
             looks: None,
+            shown: None,
             turns: Vec::new(alloc),
         }
     }

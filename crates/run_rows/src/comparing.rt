@@ -126,6 +126,29 @@ pub fn compare_looks(
     Ok(())
 }
 
+/// Whether this is what the run shows.
+pub fn compare_shown(
+    alloc: Global,
+    outcome: &Outcome,
+    shown: &[String],
+    found: &mut Differences,
+) -> Result<(), RowFault> {
+    let wanted = showings_text(alloc, shown)?;
+    let got = showings_text(alloc, outcome.shown.texts())?;
+    found.compare(alloc, "what is shown", wanted.as_bytes(), got.as_bytes())?;
+    Ok(())
+}
+
+// The showings as a row has them.
+fn showings_text(alloc: Global, showings: &[String]) -> Result<String, RowFault> {
+    let mut text = String::new(alloc);
+    for showing in showings {
+        text.push_str("shown\n")?;
+        text.push_str(showing.as_str())?;
+    }
+    Ok(text)
+}
+
 fn is_among(path: &str, changes: &[Change]) -> bool {
     for change in changes {
         if change.path.as_str() == path {

@@ -16,6 +16,7 @@ mod outside;
 mod pieces;
 mod repeating;
 mod replies;
+mod showings;
 mod trying;
 mod watched;
 

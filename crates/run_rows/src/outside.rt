@@ -1,6 +1,7 @@
-//! What is outside of a run: a folder, an input and an output in memory.
+//! What is outside of a run: a folder, an input and an output in memory, and a watch.
 
 use crate::pieces::Pieces;
+use crate::showings::Showings;
 use crate::watched::Watched;
 use row_files::{Fails, RowFault, Run, Tree};
 use std::alloc::Global;
@@ -12,6 +13,7 @@ pub struct Outside {
     pub folder: Watched<MemFolder>,
     pub input: Pieces,
     pub out: MemSink,
+    pub watch: Showings,
 }
 
 /// How a run ended, with what it left.
@@ -20,10 +22,12 @@ pub struct Outcome {
     pub status: u8,
     pub folder: Watched<MemFolder>,
     pub out: MemSink,
+    pub shown: Showings,
 }
 
 impl Outside {
-    /// A folder with this tree, this input in the pieces that the run names, and an output, where these calls fail.
+    /// A folder with this tree, this input in the pieces that the run names, and an output, where these calls fail; and a
+    /// watch that keeps what it is shown where the run tells it.
     pub fn new(
         alloc: Global,
         tree: &Tree,
@@ -37,12 +41,18 @@ impl Outside {
             folder: Watched::new(alloc, folder),
             input: Pieces::new(alloc, input, most, fails.takes.as_slice())?,
             out: MemSink::new(alloc, fails.gives.as_slice())?,
+            watch: Showings::new(alloc, run.shown.is_some()),
         })
     }
 
     /// What is left behind by what ended with this status.
     pub fn left(self, status: u8) -> Result<Outcome, RowFault> {
-        let Outside { folder, input, out } = self;
+        let Outside {
+            folder,
+            input,
+            out,
+            watch,
+        } = self;
         drop(input);
         if !folder.is_whole() {
             return Err(RowFault::Memory);
@@ -51,6 +61,7 @@ impl Outside {
             status,
             folder,
             out,
+            shown: watch,
         })
     }
 }

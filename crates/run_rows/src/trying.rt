@@ -1,9 +1,10 @@
 //! Tries rows.
 
 use crate::again::{Repeated, again_outcome};
-use crate::comparing::{compare_looks, differences};
+use crate::comparing::{compare_looks, compare_shown, differences};
 use crate::expected::{Expected, expected_of};
 use crate::outcome::outcome_of;
+use crate::outside::Outcome;
 use row_files::{
     Call, Change, Cut, Differences, Fails, Reader, Report, Row, RowFault, Run, Tree, Turns,
 };
@@ -150,12 +151,26 @@ fn try_one(
 ) -> Result<(), RowFault> {
     let outcome = outcome_of(alloc, trial.tree, trial.run, trial.input, trial.fails)?;
     let mut found = differences(alloc, trial.tree, &outcome, expected)?;
-    if let Some(looks) = &trial.run.looks {
-        if trial.apart.is_empty() {
-            compare_looks(alloc, &outcome, looks.as_slice(), &mut found)?;
-        }
+    if trial.apart.is_empty() {
+        compare_told(alloc, trial.run, &outcome, &mut found)?;
     }
     Ok(tried.count(alloc, trial, &found)?)
+}
+
+// What is told of the run itself alone.
+fn compare_told(
+    alloc: Global,
+    run: &Run,
+    outcome: &Outcome,
+    found: &mut Differences,
+) -> Result<(), RowFault> {
+    if let Some(looks) = &run.looks {
+        compare_looks(alloc, outcome, looks.as_slice(), found)?;
+    }
+    if let Some(shown) = &run.shown {
+        compare_shown(alloc, outcome, shown.as_slice(), found)?;
+    }
+    Ok(())
 }
 
 // The file or the input cut to each of the lengths.

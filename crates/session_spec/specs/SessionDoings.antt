@@ -148,8 +148,9 @@ pub record IsOpening (first : SessionState) (opened : Done) : Type 0 where
   pub few : opened.display.made ≤ made_at_once
   pub none_behind : opened.showings ≡ []
 
--- own: at most one step for each question of the opening's trace until it ends. What is opened is shown before it is
--- said; for want of memory the one or the other may be missing, and then there are no edits
+-- own: at most one step for each question of the opening's trace until it ends. Nothing is shown where that is refused,
+-- a look fails or memory is wanting. What is opened is shown before it is said, and where there is no memory to say it,
+-- there are no edits
 pub data SessionDoes (tree : Tree) (taken : List ℕ) (before : ℕ) :
     List ℕ → ℕ → List (List Shown) → Type 0 where
   unshown : (after : ℕ) → TraceSpends refresh_words tree before after → SessionDoes tree taken before [] after []

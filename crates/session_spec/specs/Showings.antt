@@ -1,7 +1,7 @@
 -- What is shown of the modules of a session. own: no public standard speaks of it.
 --     Shown                           a slot, with the path and the suffix of its module and the slots to which the
 --                                     module's requests lead
---     module_shown v, slots_of showing        its module; the slots of a showing
+--     module_shown v                  its module
 --     slot_at showing place           the slot that is shown at a place
 --     ShowsTrace entries all showing  the modules of a trace in its order, each under a slot of its own, and each
 --                                     request with the slot of the module to which it leads; entries: how many of the
@@ -10,9 +10,7 @@
 --     KeepsSlots tree showing later other     between two showings, of trees before and after an edit: a module of both
 --                                     whose bytes stayed has the same slot, and no slot stands for two modules
 --     most_made, made_at_once         how many places a graph has at most, and how many more an edit makes at most
---     NextShowing made tree showing later other       so it is behind an edit, where so many places were made before,
---                                     unless these and the modules of a trace may reach the most
-use Rattle.std.specs.Prelude.{◌≡◌, ◌<◌, ◌+◌, ◌-◌, ◌^◌, ℕ, List, length, map, flat_map, drop, slice_get}
+use Rattle.std.specs.Prelude.{◌≡◌, ◌+◌, ◌-◌, ◌^◌, ℕ, List, length, map, flat_map, drop, slice_get}
 use Rattle.std.specs.Prelude.{Option, Some, option_map, Ok}
 use Rattle.std.specs.FinMap.{get}
 use Rattle.tree_spec.specs.Limits.{limit_number}
@@ -32,9 +30,6 @@ pub record Shown : Type 0 where
 
 abbrev pub module_shown : Shown → Module
 module_shown v = record { path = v.path; suffix = v.suffix }
-
-abbrev pub slots_of : List Shown → List Slot
-slots_of showing = map (λ (v : Shown). v.slot) showing
 
 abbrev pub slot_at : List Shown → ℕ → Option Slot
 slot_at showing place = option_map (λ (v : Shown). v.slot) (slice_get showing place)
@@ -68,8 +63,3 @@ most_made = 2 ^ 32 - 64
 -- own: those of a trace, by whole chunks of 64
 abbrev pub made_at_once : ℕ
 made_at_once = limit_number Modules + 63
-
--- own: else another graph was begun
-abbrev pub NextShowing : ℕ → Tree → List Shown → Tree → List Shown → Type 0
-NextShowing made tree showing later other =
-    made + limit_number Modules < most_made → KeepsSlots tree showing later other
