@@ -1,12 +1,7 @@
 //! A folder in which each module asks for a further one, and what a run over it comes to.
 ghost use Rattle.std.specs.Prelude.{◌≡◌, ◌<◌};
 
-<<<<<<< HEAD
 use generator_core::{Unwatched, run};
-=======
-use generator_core::run;
-use session_watch::Unwatched;
->>>>>>> 765918cd7f115e9dddae33fb1aa2f908f5744cf8
 use shared_types::{Bytes, Memory, Steps};
 use std::alloc::Global;
 use std::marker::Brand;

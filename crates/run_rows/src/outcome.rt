@@ -21,11 +21,7 @@ fn status_of<L: Ledger>(alloc: Global, words: &[String], outside: &mut Outside, 
         &mut outside.folder,
         &mut outside.input,
         &mut outside.out,
-<<<<<<< HEAD
-        &mut Unwatched,
-=======
         &mut outside.watch,
->>>>>>> 765918cd7f115e9dddae33fb1aa2f908f5744cf8
         &mut steps,
     )
 }
