@@ -2,7 +2,7 @@
 ghost use Rattle.std.specs.Prelude.{◌≡◌, ◌<◌};
 
 use crate::outside::{Outcome, Outside};
-use generator_core::{Unwatched, run};
+use generator_core::run;
 use row_files::{Fails, RowFault, Run, Tree};
 use shared_types::Steps;
 use std::alloc::Global;
