@@ -244,8 +244,8 @@ class Trace:
             return None, why
 
     def walked(self):
-        modules, requests = [], 0
-        waiting = [(PAGE, None)]
+        """how many modules it has, and how many requests"""
+        waiting, requests = [(PAGE, None)], 0
         for path, suffix in waiting:
             specifiers, why = (self.site.entries, None) if suffix is None else self.answered(specifiers_of, path)
             if why:
@@ -255,10 +255,9 @@ class Trace:
                 if why:
                     raise Cause(f'{why} from {json.dumps(path + (suffix or ""))} for {json.dumps(specifier)}')
                 requests += 1
-                if target not in modules:
-                    modules.append(target)
+                if target not in waiting:
                     waiting.append(target)
-        return len(modules), requests
+        return len(waiting) - 1, requests
 
     def fresh_behind(self, before):
         """how many of its questions are fresh behind the trace before"""

@@ -96,8 +96,8 @@ class Told:
             return f'{said} said, {foreseen} foreseen', taken
         if self.before.is_right and taken[0] < self.fewest:
             return f'{taken[0]} steps for {self.fewest} questions: gdb misses some', taken
-        passed = [it for it, most in zip(enumerate(taken), self.most) if it[1] > most]
-        return ', '.join(f'edit {number}: {count} steps, not {self.most[number]}' for number, count in passed), taken
+        names = ['the opening', *(f'edit {number + 1}' for number in range(len(self.edits)))]
+        return ', '.join(f'{name}: {count} steps, {most} fresh' for name, count, most in zip(names, taken, self.most) if count > most), taken
 
 
 def worth(trace, before=None):
@@ -162,7 +162,7 @@ def main():
     words.add_argument('--sessions', type=int, default=200)
     words.add_argument('--seed', type=int, default=1)
     given = words.parse_args()
-    counter, sums, edits = Counter(str(pathlib.Path(given.program).resolve())), [0, 0, 0], []
+    counter, edits = Counter(str(pathlib.Path(given.program).resolve())), []
     shared = pathlib.Path('/dev/shm')
     with tempfile.TemporaryDirectory(dir=shared if shared.is_dir() else None) as room:
         for name, told, stated in named_sessions():
@@ -177,7 +177,7 @@ def main():
                 print(f'session {number}: {wrong}\n{told.start.entries} {told.start.files}\n{told.edits}')
                 return 1
             edits += zip(taken[1:], told.most[1:], told.anew[1:])
-    steps, most, anew = (sum(it) for it in zip(*edits))
+    steps, most, anew = (sum(it) for it in zip((0, 0, 0), *edits))
     none = sum(it[0] == 0 for it in edits)
     print(f'{given.sessions} random sessions, {len(edits)} edits, {none} of them without a step: {steps} steps, {most} fresh, {anew} anew')
     return 0 if 0 < none < len(edits) else 1
