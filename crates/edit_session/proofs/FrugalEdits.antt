@@ -22,6 +22,7 @@ use Rattle.package_lookup.specs.declared.known.Known.{Known}
 use Rattle.request_trace.specs.Answering.{Freshness}
 use Rattle.request_trace.specs.Tracing.{StepsByFresh, TakesFreshSteps}
 use Rattle.generation.specs.Generating.{StepsToEnd}
+use Rattle.generator_spec.proofs.CountedQuestions.{always_asked}
 use Rattle.kept_trace.specs.Ready.{is_anew}
 use Rattle.kept_trace.specs.Tracing.{FreshIsByTrees}
 use Rattle.kept_trace.specs.declared.kept.Kept.{Kept}
@@ -38,18 +39,22 @@ pub takes_fresh : FreshIsByTrees → (kept : Kept) (tree : Tree) (config : Confi
 takes_fresh law kept tree config answers later other from to taken = record {
   is_fresh = is_anew kept (get later);
   fresh = law kept (get tree) (get later) (questions (always (get tree)) (trace config)) answers.right answers.complete;
-  steps = λ asked are.
-      subst (λ questions. to ≤ from + length (filter (is_anew kept (get later)) questions))
-      (same_Some taken.asked asked (sym taken.are ∙ are)) taken.steps;
+  asked = taken.asked;
+  are = taken.are;
+  steps = taken.steps;
 }
 
 takes_none : (tree : Tree) (config : Config) (later : Tree) (other : Config) (from to : ℕ) → to ≡ from
     → TakesFresh tree config later other from to
-takes_none tree config later other from to same = record {
-  is_fresh = λ question. false;
-  fresh = λ question is. absurd (cc);
-  steps = λ asked are. omega (arith, same);
-}
+takes_none tree config later other from to same =
+    let all = always_asked (get later) other in
+    record {
+      is_fresh = λ question. false;
+      fresh = λ question is. absurd (cc);
+      asked = all.asked;
+      are = all.are;
+      steps = omega (arith, same);
+    }
 
 none_refused : {A : Type 0} (result : Result A EditFault) (from to : ℕ) → to ≡ from → OnErr result (to ≡ from)
 none_refused (Ok value) from to same = tt

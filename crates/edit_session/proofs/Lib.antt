@@ -1,6 +1,8 @@
 mod LooksAgree
 mod AskedPaths
 mod LookedOn
+mod ShownTraces
+mod SlotsKept
 mod StandingLemmas
 mod TreesMade
 mod DraftsMade

@@ -5,8 +5,9 @@
 --     right_empty                where nothing is kept, all that is kept is right
 --     leaves_answers             what is kept of a trace
 --     keeps_ok, on_ok            of one that leads somewhere
+--     plans_so                   the plan to show a trace
 use Rattle.std.proofs.Common.{◌≡◌, ◌++◌, ℕ, List, Option, Some, None, IfSome, Result, Ok, Err, sym, ap, ◌∙◌, subst}
-use Rattle.std.specs.Prelude.{All, OnOk}
+use Rattle.std.specs.Prelude.{All, OnOk, length}
 use Rattle.std.specs.FinMap.{get}
 use Rattle.std.proofs.lemmas.List.{append_cancel_left}
 use Rattle.std.proofs.lemmas.List.Elements.{All-contains}
@@ -17,12 +18,14 @@ use Rattle.tree_spec.specs.States.{FolderState, OnlyLooks}
 use Rattle.trace_spec.specs.Checks.{Gathered}
 use Rattle.trace_spec.specs.Modules.{Config}
 use Rattle.trace_spec.specs.Questions.{always}
-use Rattle.trace_spec.specs.Traces.{trace}
+use Rattle.trace_spec.specs.Traces.{trace, traced}
+use Rattle.trace_graph.specs.Links.{Links}
 use Rattle.trace_spec.specs.declared.TraceFault.{TraceFault}
 use Rattle.package_lookup.specs.Answered.{AsksOnce}
 use Rattle.package_lookup.specs.Learning.{Learns}
 use Rattle.package_lookup.specs.Looked.{Sees}
 use Rattle.package_lookup.specs.declared.known.Known.{Known}
+use Rattle.request_trace.specs.Showing.{Traced}
 use Rattle.request_trace.specs.Tracing.{known_of, IsOfFootprint}
 use Rattle.kept_answers.specs.RightAnswers.{untold}
 use Rattle.kept_trace.specs.Ready.{AreAllRight, IsEmptyUnder}
@@ -36,7 +39,8 @@ use Rattle.generation.specs.declared.generated.Generated.{Generated}
 use Rattle.generation.specs.declared.stop.Stop.{Stop}
 use Rattle.generation.specs.declared.stop.Stop.TheVariants.{ReadFault, Memory}
 use Rattle.generation.proofs.Generatings.{stopped, traced_there, refused_so, mapped}
-use Rattle.edit_session.specs.Mapping.{GeneratesIf, IsKeptFor, LeavesAnswers}
+use Rattle.edit_session.specs.Mapping.{GeneratesIf, IfKnown, IsKeptFor, LeavesAnswers}
+use Rattle.edit_session.specs.Shown.{Shows, KeepsShown, TracedSo, IsPlannedBy, PlansFor}
 use Rattle.edit_session.proofs.LookedOn.{some_told, all_told}
 
 module _ (right : Type 0) (config : Config) (before after : FolderState) (known later : Known) where
@@ -162,3 +166,34 @@ keeps_ok (Err fault) goes holds = tt
 pub on_ok : {A E P : Type 0} (result : Result A E) → P → OnOk result P
 on_ok (Ok value) holds = holds
 on_ok (Err fault) holds = tt
+
+-- ---- the plan
+
+pub plans_so : {A : Type 0} (right : Type 0) (config : Config) (before after : FolderState) (known later : Known) (trace : Traced) (old : Links)
+    (now : Shows) (result : Result A Stop) → TracesIf right config before known (Ok trace.gathered) after later
+    → length trace.links.roots ≡ length config.entries → KeepsShown old now.links
+    → OnOk result (IsPlannedBy (length old.graph) trace now) → OnOk result (PlansFor (IfKnown right before known) config now)
+plans_so right config before after known later trace old now (Err stop) traces entries keeps planned = tt
+plans_so right config before after known later trace old now (Ok found) traces entries keeps by = record {
+  plan = by.plan;
+  is_there = by.is_there;
+  made = length old.graph;
+  within = keeps.same.no_fewer;
+  links = trace.links;
+  planned = by.planned;
+  linked = by.linked;
+  entries = entries;
+  traced_so = λ holds.
+      all_told (λ tree. IfSeen tree known (λ seen. TracedSo seen config trace.links)) before.holds
+      (λ tree told seen sees all is.
+      (let mine : traced (get seen) config ≡ Ok trace.gathered =
+      some_told (λ tree. IfSeen tree known (λ seen. traced (get seen) config ≡ Ok trace.gathered)) before.holds tree told
+      (traced_there config before after known later trace.gathered (traces.is holds)).traces seen sees in
+      let both : Ok trace.gathered ≡ Ok all = sym mine ∙ is in
+      let same : trace.gathered ≡ all = cc in
+      record {
+        modules = by.shows.modules_are ∙ ap (λ (g : Gathered). g.modules) same;
+        sources = by.shows.sources_are ∙ ap (λ (g : Gathered). g.sources) same;
+        targets = by.shows.targets_are ∙ ap (λ (g : Gathered). g.targets) same;
+      }));
+}

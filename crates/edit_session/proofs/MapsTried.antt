@@ -1,6 +1,7 @@
 -- A generation over looks that are laid for it.
 use Rattle.std.proofs.Common.{◌≡◌, ℕ, List, Some, Result, Ok, Err, IfSome, sym, ap, ◌∙◌, subst}
 use Rattle.std.specs.FinMap.{get}
+use Rattle.std.specs.Prelude.{OnOk}
 use Rattle.tree_spec.specs.LookAskings.{Sights}
 use Rattle.tree_spec.specs.LookLimits.{no_trail}
 use Rattle.tree_spec.specs.States.{FolderState}
@@ -25,10 +26,12 @@ use Rattle.generation.specs.declared.stop.Stop.TheVariants.{Refused, ReadFault, 
 use Rattle.session_spec.specs.SessionStates.{config_with, IsGenerated}
 use Rattle.edit_session.specs.LooksOn.{LooksOn}
 use Rattle.edit_session.specs.SessionTrees.{counts_in}
-use Rattle.edit_session.specs.Mapping.{GeneratesIf, IsKeptFor}
+use Rattle.edit_session.specs.Mapping.{GeneratesIf, IfKnown, IsKeptFor}
+use Rattle.edit_session.specs.Shown.{Shows, TracedSo, PlansFor}
 use Rattle.edit_session.specs.Trying.{IfLaid, TriesMap}
 use Rattle.edit_session.proofs.LookedOn.{some_told, laid_back, stands_same}
 use Rattle.edit_session.proofs.MapsAgain.{learns_if, looks_if}
+use Rattle.edit_session.proofs.ShownTraces.{plans_as}
 
 -- what is generated is the map of the tree, with its counts
 pub generated_of : (tree : Tree) (config : Config) (found : Generated) → IsMapOfTree tree config found
@@ -76,6 +79,14 @@ module _ (right : Type 0) (before after : FolderState) (known under learnt later
       → (right → IfSome before.holds (λ tree. IfSeen tree under (IsKeptFor kept (config_with config entries) next)))
       → IfLaid right before known over (IsKeptFor kept (config_with config entries) next)
   keeps_so kept next is = laid_so (IsKeptFor kept (config_with config entries) next) is
+
+  pub plans_laid : {A : Type 0} (now : Shows) (result : Result A Stop)
+      → OnOk result (PlansFor (IfKnown right before under) (config_with config entries) now)
+      → OnOk result (PlansFor (IfLaid right before known over) (config_with config entries) now)
+  plans_laid now (Err stop) is = tt
+  plans_laid now (Ok found) is =
+      plans_as (IfKnown right before under) (IfLaid right before known over) (config_with config entries) now
+      (λ l so. laid_so (λ seen. TracedSo seen (config_with config entries) l) so) is
 
   pub fresh_so : (is_fresh : Freshness) (from to : ℕ)
       → (right → TakesFreshSteps is_fresh (config_with config entries) before under from to)

@@ -1,8 +1,8 @@
 -- What the calls of a session come to.
-use Rattle.std.proofs.Common.{◌≡◌, ◌++◌, [], ℕ, List, Option, Some, None, Result, Ok, Err, IfSome, refl, sym, ap, ◌∙◌, subst, arith, append-nil}
+use Rattle.std.proofs.Common.{◌≡◌, ◌++◌, [], ℕ, List, Option, Some, None, Result, Ok, Err, IfSome, refl, sym, ap, ◌∙◌, subst, arith, inl, inr, append-nil}
 use Rattle.std.specs.FinMap.{get}
 use Rattle.std.specs.HashMap as map
-use Rattle.std.specs.Prelude.{◌==◌, ◌∷◌, All, true, false, is_some, bytes_eq, length, ⊤}
+use Rattle.std.specs.Prelude.{◌==◌, ◌≤◌, ◌∷◌, All, true, false, is_some, bytes_eq, length, ⊤}
 use Rattle.std.proofs.lemmas.Bool.{true≢false}
 use Rattle.std.proofs.lemmas.Bool.Decides.{Decides-eqb}
 use Rattle.std.proofs.lemmas.List.{append_cancel_left}
@@ -15,6 +15,10 @@ use Rattle.tree_spec.proofs.FootprintSets.{distinct_none}
 use Rattle.tree_spec.proofs.ToldStates.{if_some}
 use Rattle.trace_spec.specs.Laws.{IsLookedAt}
 use Rattle.trace_spec.specs.Modules.{Config}
+use Rattle.trace_spec.proofs.Traces.{modules_once}
+use Rattle.trace_graph.specs.Links.{Links}
+use Rattle.graph_repair.specs.Repairs.{ShowsSame}
+use Rattle.graph_repair.specs.declared.parts.Plan.{Plan}
 use Rattle.config_spec.specs.declared.Command.{Command}
 use Rattle.config_spec.specs.declared.Command.TheVariants.{Refresh}
 use Rattle.generator_spec.specs.Commands.{IsGenerating, IsRefusalOf, Opens, Refuses, nothing, refresh}
@@ -43,7 +47,10 @@ use Rattle.edit_session.specs.KeptAnswers.{AreAnswersOf}
 use Rattle.edit_session.specs.LooksOn.{LooksOn}
 use Rattle.edit_session.specs.Mapping.{IsKeptFor}
 use Rattle.edit_session.specs.NewLooks.{AsksNew, AsksKept, LooksNew}
-use Rattle.edit_session.specs.SessionTrees.{counts_in, IsSessionOf, IsStateThen, kept_then}
+use Rattle.session_spec.specs.Showings.{IsShowingOf, KeepsSlots, made_at_once}
+use Rattle.session_watch.specs.Seen.{showing_of}
+use Rattle.edit_session.specs.SessionTrees.{counts_in, shown_in, showing_in, IsSessionOf, IsPendingOf, IsStateThen, ShowsThen, kept_then}
+use Rattle.edit_session.specs.Shown.{Shows, KeepsShown, TracedSo, IsShownOf, PlansFor, IsNextShown, NoMorePlaces}
 use Rattle.edit_session.specs.Sessions.{IsOpened, OpensSession, IfRefused, StopsEdit, Accepts, Prepares, BecomesBy, Commits}
 use Rattle.session_spec.specs.Frugality.{IsFrugal}
 use Rattle.edit_session.specs.Steps.{MakesNext, IsStep, TakesFreshOf}
@@ -58,6 +65,8 @@ use Rattle.edit_session.proofs.AskedPaths.{asks_as, asks_once_new}
 use Rattle.edit_session.proofs.FrugalEdits.{frugal_nothing}
 use Rattle.edit_session.proofs.LookedOn.{some_told, all_told, looks_on_nothing}
 use Rattle.edit_session.proofs.MapsTried.{generated_of}
+use Rattle.edit_session.proofs.ShownTraces.{showing_same, sources_same, sames_itself, keeps_itself, shown_then}
+use Rattle.edit_session.proofs.SlotsKept.{next_showing, showing_itself}
 
 abbrev Done : Type 0
 Done = Result (Unit {0}) EditStop
@@ -81,8 +90,9 @@ changed_same made pending changed same = (let no : Some (Changed made) ≡ Some 
 
 pub session_by : (tree : Tree) (old new : Session) (known : StandsBehind tree old.known → StandsBehind tree new.known)
     → new.known.laid ≡ old.known.laid → new.config ≡ old.config → new.generated ≡ old.generated
-    → new.answers.kept ≡ old.answers.kept → (state : SessionState) → IsSessionOf tree old state → IsSessionOf tree new state
-session_by tree old new behind laid config generated answers state is = record {
+    → new.answers.kept ≡ old.answers.kept → ShowsSame (shown_in old) (shown_in new) → (state : SessionState) → IsSessionOf tree old state
+    → IsSessionOf tree new state
+session_by tree old new behind laid config generated answers shown state is = record {
   stands = behind is.stands;
   is_state = record {
     laid = subst (λ over. IsLaid tree over state.tree) (sym laid) is.is_state.laid;
@@ -93,6 +103,8 @@ session_by tree old new behind laid config generated answers state is = record {
   };
   current = is.current;
   answers = subst (λ (kept : Kept). AreAnswersOf kept state.tree state.config) (sym answers) is.answers;
+  shows = subst (IsShowingOf state.tree state.config) (sym (showing_same (shown_in old) (shown_in new) shown)) is.shows;
+  sources = λ all traced_so. sources_same (shown_in old) (shown_in new) shown ∙ is.sources all traced_so;
 }
 
 -- the line of an edit that isn't prepared
@@ -152,13 +164,14 @@ module _ (before after : FolderState) (old : Session) (mid : Parts) (edit : List
 
   module _ (result : Result Pending EditStop) (is : MakesNext before (parts_of old) edit result after mid) where
     stays_so : (new : Session) → new.known ≡ mid.known → new.config ≡ mid.config → new.generated ≡ mid.generated
-        → new.answers ≡ mid.answers → IfSome before.holds (λ tree. (state : SessionState) → IsSessionOf tree old state → IsSessionOf tree new state)
-    stays_so new known config generated answers =
+        → new.answers ≡ mid.answers → new.shown ≡ mid.shown → IfSome before.holds (λ tree. (state : SessionState) → IsSessionOf tree old state → IsSessionOf tree new state)
+    stays_so new known config generated answers shown =
         all_told (λ tree. (state : SessionState) → IsSessionOf tree old state → IsSessionOf tree new state) before.holds
         (λ tree e state there. session_by tree old new
         (λ stands. subst (StandsBehind tree) (sym known) (is.looks.behind tree e stands))
         (ap (λ (k : Known). k.laid) known ∙ is.looks.laid) (config ∙ is.same.config) (generated ∙ is.same.generated)
-        (ap (λ (a : TraceAnswers). a.kept) answers ∙ is.same.answers) state there)
+        (ap (λ (a : TraceAnswers). a.kept) answers ∙ is.same.answers)
+        (subst (λ (s : Shows). ShowsSame (shown_in old) s.links) (sym shown) is.shown.same) state there)
 
   why_so : (why : EditStop)
       → ((tree : Tree) (state : SessionState) → before.holds ≡ Some tree → IsPartsOf tree (parts_of old) state → StopsEdit state edit why)
@@ -178,7 +191,7 @@ module _ (before after : FolderState) (old : Session) (mid : Parts) (edit : List
   refusal_so Memory is = tt
 
   module _ (new : Session) (known : new.known ≡ mid.known) (config : new.config ≡ mid.config)
-      (generated : new.generated ≡ mid.generated) (answers : new.answers ≡ mid.answers) where
+      (generated : new.generated ≡ mid.generated) (answers : new.answers ≡ mid.answers) (shown : new.shown ≡ mid.shown) where
     looks_so : (failed some fails unfinished : Type 0) → (fails → failed) → (failed → fails) → (some → unfinished)
         → LooksOn before old.known after mid.known failed some AsksCleared
         → LooksNew before old.known after new.known fails unfinished Asks
@@ -198,7 +211,8 @@ module _ (before after : FolderState) (old : Session) (mid : Parts) (edit : List
       refused = refusal_so why (why_so why is.refused);
       why = why_so why is.refused;
       kind = is.kind;
-      stays = stays_so (next_stops why) is new known config generated answers;
+      shown = subst (λ (s : Shows). KeepsShown (shown_in old) s.links) (sym shown) is.shown;
+      stays = stays_so (next_stops why) is new known config generated answers shown;
       pending = tt;
       nothing_pending = none;
       same = ((λ e. absurd (filled e)), λ e. absurd (none_same new.pending none e));
@@ -233,13 +247,16 @@ module _ (before after : FolderState) (old : Session) (mid : Parts) (edit : List
               current = leads.accepted.current;
               answers = subst (λ (a : TraceAnswers). AreAnswersOf a.next leads.next.tree leads.next.config) (sym answers)
                   leads.answers;
+              shows = subst (PlansFor (λ P. P leads.next.tree) leads.next.config) (sym shown)
+                  leads.plans;
             };
             accepted = leads.accepted;
           });
       refused = tt;
       why = tt;
       kind = tt;
-      stays = stays_so (next_leads pending) is new known config generated answers;
+      shown = subst (λ (s : Shows). KeepsShown (shown_in old) s.links) (sym shown) is.shown;
+      stays = stays_so (next_leads pending) is new known config generated answers shown;
       pending = ap is_some there;
       nothing_pending = tt;
       same = ((λ e. absurd (filled e)), λ e. absurd (changed_same pending new.pending there e));
@@ -248,11 +265,12 @@ module _ (before after : FolderState) (old : Session) (mid : Parts) (edit : List
 -- ---- an edit without changes
 
 module _ (before : FolderState) (old new : Session) (known : new.known ≡ old.known) (config : new.config ≡ old.config)
-    (generated : new.generated ≡ old.generated) (answers : new.answers ≡ old.answers) where
+    (generated : new.generated ≡ old.generated) (answers : new.answers ≡ old.answers) (shown : new.shown ≡ old.shown) where
   same_session : (tree : Tree) (state : SessionState) → IsSessionOf tree old state → IsSessionOf tree new state
   same_session tree state is =
       session_by tree old new (λ stands. subst (StandsBehind tree) (sym known) stands) (ap (λ (k : Known). k.laid) known)
-      config generated (ap (λ (a : TraceAnswers). a.kept) answers) state is
+      config generated (ap (λ (a : TraceAnswers). a.kept) answers)
+      (subst (λ (s : Shows). ShowsSame (shown_in old) s.links) (sym shown) (sames_itself (shown_in old))) state is
 
   accepts_same : new.pending ≡ Some Same → (tree : Tree) (state : SessionState) → IsSessionOf tree old state
       → Accepts tree state [] new
@@ -267,6 +285,7 @@ module _ (before : FolderState) (old new : Session) (known : new.known ≡ old.k
           is_state = then.is_state;
           current = is.current;
           answers = then.answers;
+          shows = record { shows = then.shows; sources = then.sources };
         };
         accepted = record { made = refl; same_project = refl; current = is.current; said = refl };
       })
@@ -282,6 +301,7 @@ module _ (before : FolderState) (old new : Session) (known : new.known ≡ old.k
   prepared_same there = record {
     config = config;
     generated = generated;
+    shown = subst (λ (s : Shows). KeepsShown (shown_in old) s.links) (sym shown) (keeps_itself (shown_in old));
     looks = looks_same (all_done ≡ Err ReadFault) (all_done ≡ Err Memory) (λ e. absurd (cc));
     accepted = all_told (λ tree. (state : SessionState) → IsSessionOf tree old state → Accepts tree state [] new)
         before.holds (λ tree e. accepts_same there tree);
@@ -307,6 +327,21 @@ same_prepared : (one other : Prepared) (there : Option Prepared) → there ≡ S
 same_prepared one other there e f =
     (let same : Some one ≡ Some other = sym e ∙ f in let p : one ≡ other = cc in p)
 
+-- what is shown then
+module _ (old new : Session) (pending : Pending) (there : old.pending ≡ Some (Changed pending)) where
+  plans_next : (tree : Tree) (next : SessionState) (is_next : IsPendingOf tree old next)
+      → PlansFor (λ P. P next.tree) next.config old.shown
+  plans_next tree next is_next =
+      subst (λ (p : Prepared). ShowsThen old p next)
+      (same_prepared is_next.prepared (Changed pending) old.pending is_next.is_there there) is_next.shows
+
+  shown_next : IsStep (parts_of old) pending (parts_of new) → (tree : Tree) (next : SessionState) (is_next : IsPendingOf tree old next)
+      → IsShownOf next.tree next.config (shown_in new)
+  shown_next step tree next is_next =
+      let plans = plans_next tree next is_next in
+      shown_then (λ P. P next.tree) next.config old.shown (shown_in new) plans (step.shown plans.plan plans.is_there) next.tree
+      plans.traced_so
+
 pub committed : (old new : Session) (pending : Pending) → old.pending ≡ Some (Changed pending) → new.pending ≡ None
     → IsStep (parts_of old) pending (parts_of new) → Commits old new
 committed old new pending there none step = record {
@@ -329,32 +364,54 @@ committed old new pending there none step = record {
         current = is_next.current;
         answers = subst (λ (kept : Kept). AreAnswersOf kept next.tree next.config) (sym step.answers)
             (subst (λ (p : Prepared). AreAnswersOf (kept_then old p) next.tree next.config) same is_next.answers);
+        shows = (shown_next old new pending there step tree next is_next).shows;
+        sources = (shown_next old new pending there step tree next is_next).sources;
       });
+  slots = λ tree state next is is_next.
+      next_showing old.shown (shown_in new) state.tree next.tree state.config next.config
+      (record { shows = is.shows; sources = is.sources }) is.current.generates.all is.current.generates.is_traced
+      (plans_next old new pending there tree next is_next) is_next.current.generates.all is_next.current.generates.is_traced
+      (step.shown (plans_next old new pending there tree next is_next).plan (plans_next old new pending there tree next is_next).is_there);
   steps = λ other e.
       subst (λ (p : Prepared). BecomesBy old p new) (same_prepared (Changed pending) other old.pending there e)
-      (record { laid = step.laid; config = step.config; generated = step.generated });
+      (record {
+        laid = step.laid;
+        config = step.config;
+        generated = step.generated;
+        shown = step.shown;
+        places = step.places;
+      });
   kept = λ path. ap (λ kept. map.get bytes_eq kept path) step.kept;
   nothing_pending = none;
 }
 
 pub committed_same : (old new : Session) → old.pending ≡ Some Same → new.pending ≡ None → new.known ≡ old.known
-    → new.config ≡ old.config → new.generated ≡ old.generated → new.answers ≡ old.answers → Commits old new
-committed_same old new there none known config generated answers = record {
+    → new.config ≡ old.config → new.generated ≡ old.generated → new.answers ≡ old.answers → new.shown ≡ old.shown → Commits old new
+committed_same old new there none known config generated answers shown = record {
   becomes = λ tree state next is is_next.
       (let same : is_next.prepared ≡ Same = same_prepared is_next.prepared Same old.pending is_next.is_there there in
       let then : IsStateThen tree old Same next =
       subst (λ (p : Prepared). IsStateThen tree old p next) same is_next.is_state in
       session_by tree old new (λ stands. subst (StandsBehind tree) (sym known) stands) (ap (λ (k : Known). k.laid) known)
-      config generated (ap (λ (a : TraceAnswers). a.kept) answers) next
+      config generated (ap (λ (a : TraceAnswers). a.kept) answers)
+      (subst (λ (s : Shows). ShowsSame (shown_in old) s.links) (sym shown) (sames_itself (shown_in old))) next
       (record {
         stands = is.stands;
         is_state = then;
         current = is_next.current;
         answers = subst (λ (p : Prepared). AreAnswersOf (kept_then old p) next.tree next.config) same is_next.answers;
+        shows = (subst (λ (p : Prepared). ShowsThen old p next) same is_next.shows).shows;
+        sources = (subst (λ (p : Prepared). ShowsThen old p next) same is_next.shows).sources;
       }));
+  slots = λ tree state next is is_next few.
+      subst (KeepsSlots state.tree (showing_in old) next.tree)
+      (sym (ap (λ (s : Shows). showing_of s.links.graph s.links.slots) shown))
+      (showing_itself (length state.config.entries) is.current.generates.all (showing_in old)
+      (is.shows is.current.generates.all is.current.generates.is_traced)
+      (modules_once (get state.tree) state.config is.current.generates.all is.current.generates.is_traced) state.tree next.tree);
   steps = λ other e.
       subst (λ (p : Prepared). BecomesBy old p new) (same_prepared Same other old.pending there e)
-      (record { laid = ap (λ (k : Known). k.laid) known; config = config; generated = generated });
+      (record { laid = ap (λ (k : Known). k.laid) known; config = config; generated = generated; shown = ap (λ (s : Shows). s.links) shown });
   kept = λ path. ap (λ (k : Known). kept_at k path) known;
   nothing_pending = none;
 }
@@ -421,7 +478,23 @@ module _ (config : Config) (before after : FolderState) (known later : Known)
   module _ (session : Session) (found : Generated) (known_is : session.known ≡ later) (config_is : session.config ≡ config)
       (map_is : session.generated ≡ found)
       (answers : IfSome before.holds
-      (λ tree. IfSeen tree known (λ seen. AreAnswersOf session.answers.kept seen config))) where
+      (λ tree. IfSeen tree known (λ seen. AreAnswersOf session.answers.kept seen config)))
+      (empty : Links) (nothing : length empty.graph ≡ 0) (grown : Shows) (keeps : KeepsShown empty grown.links)
+      (plans : PlansFor (λ P. IfSome before.holds (λ tree. IfSeen tree known P)) config grown)
+      (next : (plan : Plan) → grown.plan ≡ Some plan → IsNextShown grown.links plan (shown_in session)) (no_more : NoMorePlaces grown.links (shown_in session)) where
+    shown_opened : (tree : Tree) → before.holds ≡ Some tree → IsShownOf tree config (shown_in session)
+    shown_opened tree e =
+        shown_then (λ P. IfSome before.holds (λ tree. IfSeen tree known P)) config grown (shown_in session) plans
+        (next plans.plan plans.is_there) tree
+        (in_tree (λ seen. TracedSo seen config plans.links) plans.traced_so tree e)
+
+    few_places : length (shown_in session).graph ≤ made_at_once
+    few_places =
+        elim no_more [
+          | inl same ↦ (let few = keeps.few in omega (arith, same, few, nothing))
+          | inr few ↦ few
+        ]
+
     is_opened : Made (Ok found) → (tree : Tree) → before.holds ≡ Some tree → IsOpened tree config session
     is_opened is tree e = record {
       state = record { tree = tree; config = config; map = found.map.items; counts = counts_in found };
@@ -439,6 +512,8 @@ module _ (config : Config) (before after : FolderState) (known later : Known)
           counts_are = sym (ap counts_in map_is);
         };
         answers = in_tree (λ seen. AreAnswersOf session.answers.kept seen config) answers tree e;
+        shows = (shown_opened tree e).shows;
+        sources = (shown_opened tree e).sources;
         current = generated_of tree config found (in_tree (λ seen. IsMapOfTree seen config found) is.generated tree e);
       };
       tree_is = refl;
@@ -453,6 +528,7 @@ module _ (config : Config) (before after : FolderState) (known later : Known)
       nothing_laid = λ path.
           ap (λ (k : Known). laid_at k path) known_is ∙ (is.learns.known.laid path ∙ none_laid path);
       nothing_pending = none;
+      places = few_places;
       refused = tt;
       kind = tt;
       asked = asks (gives found ≡ Err stop.Memory) is.learns;
@@ -498,6 +574,7 @@ module _ (config : Config) (before after : FolderState) (known later : Known)
     page = tt;
     nothing_laid = tt;
     nothing_pending = tt;
+    places = tt;
     refused = refuses_so why is.refused;
     kind = kind_so why is.kind;
     asked = asks (no_map why ≡ Err stop.Memory) is.learns;
@@ -543,6 +620,7 @@ module _ (config : Config) (before : FolderState) where
     page = tt;
     nothing_laid = tt;
     nothing_pending = tt;
+    places = tt;
     refused = tt;
     kind = tt;
     asked = all_told (λ old. AsksNoPathTwice old before) before.asked asks_none;

@@ -32,6 +32,7 @@ use Rattle.edit_session.specs.SessionTrees.{counts_in}
 use Rattle.edit_session.specs.Sessions.{StopsEdit, CanStopEdit}
 use Rattle.edit_session.specs.Steps.{LeadsTo, CanLackMap, IsAsBefore, GeneratesNext, MakesNext, TakesFreshOf}
 use Rattle.edit_session.specs.Stopping.{stop_by, stop_for}
+use Rattle.edit_session.specs.Shown.{Shows, KeepsShown, PlansFor}
 use Rattle.edit_session.specs.Trying.{IfLaid, TriesMap}
 use Rattle.edit_session.specs.SessionParts.{Parts, IsPartsOf}
 use Rattle.edit_session.specs.declared.session.Pending.{Pending}
@@ -42,6 +43,7 @@ use Rattle.edit_session.specs.declared.stop.EditStop.TheVariants.{Change as NoCh
 use Rattle.edit_session.proofs.DraftsMade.{MakesAll}
 use Rattle.edit_session.proofs.FrugalEdits.{frugal}
 use Rattle.edit_session.proofs.LookedOn.{looks_on_then, looks_on_as, looks_on_nothing}
+use Rattle.edit_session.proofs.ShownTraces.{has_plan, keeps_itself, plans_as}
 
 abbrev Next : Type 0
 Next = Result Pending EditStop
@@ -64,7 +66,7 @@ made_stop stop = Err stop
 -- ---- the map for what the changes leave
 
 module _ (before after : FolderState) (old new : Parts) (over left : Over) (entries : List (List ℕ))
-    (same : IsAsBefore old new) where
+    (same : IsAsBefore old new) (keeps_shown : KeepsShown old.shown.links new.shown.links) where
   abbrev Right : Type 0
   Right = AreAllRight old.answers.kept
 
@@ -92,6 +94,8 @@ module _ (before after : FolderState) (old new : Parts) (over left : Over) (entr
     refused = λ holds tree seen e behind laid. tries.refused holds tree seen e behind laid;
     kind = tries.kind;
     keeps = tt;
+    shown = keeps_shown;
+    plans = tt;
   }
   no_next map.ReadFault tries = record {
     same = same;
@@ -102,6 +106,8 @@ module _ (before after : FolderState) (old new : Parts) (over left : Over) (entr
     refused = λ holds tree seen e behind laid. tt;
     kind = tt;
     keeps = tt;
+    shown = keeps_shown;
+    plans = tt;
   }
   no_next map.Memory tries = record {
     same = same;
@@ -112,13 +118,16 @@ module _ (before after : FolderState) (old new : Parts) (over left : Over) (entr
     refused = λ holds tree seen e behind laid. tt;
     kind = tt;
     keeps = tt;
+    shown = keeps_shown;
+    plans = tt;
   }
 
   pub has_next : (pending : Pending) → pending.over ≡ left → pending.entries ≡ entries
       → IfLaid Right before old.known over (IsKeptFor old.answers.kept (config_with old.config entries) new.answers.next)
+      → PlansFor (IfLaid Right before old.known over) (config_with old.config entries) new.shown
       → TriesMap Right before old.known old.config over entries (Ok pending.generated) after new.known left
       → GeneratesNext before old over entries (Ok pending) after new
-  has_next pending over_is entries_are keeps tries = record {
+  has_next pending over_is entries_are keeps plans tries = record {
     same = same;
     looks = looks_so (Ok pending.generated) (next_of pending) (λ e. absurd (cc)) (λ e. absurd (cc)) (λ e. absurd (cc)) tries;
     same_over = λ path. ap (λ o. over_at o path) over_is ∙ tries.same_over path;
@@ -127,13 +136,18 @@ module _ (before after : FolderState) (old new : Parts) (over left : Over) (entr
     refused = tt;
     kind = tt;
     keeps = keeps;
+    shown = keeps_shown;
+    plans = plans;
   }
 
 -- ---- an edit
 
 module _ (before middle : FolderState) (old mid : Parts) (edit : List Change) (over between : Over)
     (entries later_entries : List (List ℕ)) (is_copy : (path : List ℕ) → over_at over path ≡ over_at old.known.laid path)
-    (are_copied : entries ≡ old.config.entries) (same : IsAsBefore old mid) where
+    (are_copied : entries ≡ old.config.entries) (same : IsAsBefore old mid) (same_shown : mid.shown ≡ old.shown) where
+  keeps_so : KeepsShown old.shown.links mid.shown.links
+  keeps_so = subst (λ (s : Shows). KeepsShown old.shown.links s.links) (sym same_shown) (keeps_itself old.shown.links)
+
   abbrev first : Work
   first = work before old.known over entries
 
@@ -170,6 +184,8 @@ module _ (before middle : FolderState) (old mid : Parts) (edit : List Change) (o
     accepted = tt;
     refused = λ tree state e is. makes.leaves tree (draft_of state) e (draft_is tree state is);
     kind = makes.kind;
+    shown = keeps_so;
+    has_plan = tt;
   }
   no_change change.ReadFault makes = record {
     same = same;
@@ -180,6 +196,8 @@ module _ (before middle : FolderState) (old mid : Parts) (edit : List Change) (o
     accepted = tt;
     refused = λ tree state e is. tt;
     kind = tt;
+    shown = keeps_so;
+    has_plan = tt;
   }
   no_change change.Memory makes = record {
     same = same;
@@ -190,6 +208,8 @@ module _ (before middle : FolderState) (old mid : Parts) (edit : List Change) (o
     accepted = tt;
     refused = λ tree state e is. tt;
     kind = tt;
+    shown = keeps_so;
+    has_plan = tt;
   }
 
   -- ---- all changes are made
@@ -256,6 +276,9 @@ module _ (before middle : FolderState) (old mid : Parts) (edit : List Change) (o
         (result ≡ Err Memory) AsksChange AsksMap AsksEdit (λ e. absurd (cc)) (λ e. absurd (cc)) asks_change asks_map
         makes.looks generates.looks
 
+    shown_all : KeepsShown old.shown.links new.shown.links
+    shown_all = subst (λ (s : Shows). KeepsShown s.links new.shown.links) same_shown generates.shown
+
     same_all : IsAsBefore old new
     same_all = record {
       config = generates.same.config ∙ same.config;
@@ -266,7 +289,7 @@ module _ (before middle : FolderState) (old mid : Parts) (edit : List Change) (o
   module _ (makes : MakesAll edit first (Ok tt) second) (after : FolderState) (new : Parts) where
     leads : (pending : Pending) → GeneratesNext middle mid between later_entries (Ok pending) after new → (tree : Tree)
         (state : SessionState) → before.holds ≡ Some tree → IsPartsOf tree old state
-        → LeadsTo tree state edit old.config pending new.answers.next
+        → LeadsTo tree state edit old.config pending new.answers.next new.shown
     leads pending generates tree state e is =
         (let next = left_by makes after new (next_of pending) generates tree state e is in
         let entries_so : next.0.entries ≡ pending.entries = next.2.entries_are ∙ sym generates.same_entries in
@@ -301,6 +324,13 @@ module _ (before middle : FolderState) (old mid : Parts) (edit : List Change) (o
               (generates.keeps (right_so makes after new (next_of pending) generates tree state is) tree next.0.tree
               (told_on makes after new (next_of pending) generates tree e) next.2.seen.stands next.2.seen.laid
               (under_so makes after new (next_of pending) generates tree state is));
+          plans = subst (λ (config : Config). PlansFor (λ P. P next.0.tree) config new.shown) config_is
+              (plans_as (IfLaid (AreAllRight mid.answers.kept) middle mid.known between) (λ P. P next.0.tree)
+              (config_with mid.config later_entries) new.shown
+              (λ l so.
+              so (right_so makes after new (next_of pending) generates tree state is) tree next.0.tree
+              (told_on makes after new (next_of pending) generates tree e) next.2.seen.stands next.2.seen.laid)
+              generates.plans);
         })
 
     pub accepted_next : (pending : Pending) → GeneratesNext middle mid between later_entries (Ok pending) after new
@@ -311,6 +341,9 @@ module _ (before middle : FolderState) (old mid : Parts) (edit : List Change) (o
       accepted = λ tree state e is. leads pending generates tree state e is;
       refused = tt;
       kind = tt;
+      shown = shown_all makes after new (next_of pending) generates;
+      has_plan = has_plan (IfLaid (AreAllRight mid.answers.kept) middle mid.known between) (config_with mid.config later_entries)
+          new.shown generates.plans;
     }
 
     refused_so : (stop : EditStop) → GeneratesNext middle mid between later_entries (Err stop) after new → (tree : Tree)
@@ -349,6 +382,8 @@ module _ (before middle : FolderState) (old mid : Parts) (edit : List Change) (o
       accepted = tt;
       refused = refused_so stop generates;
       kind = kind_so stop generates.kind;
+      shown = shown_all makes after new (stopped stop) generates;
+      has_plan = tt;
     }
 
 pub lacks_next : (before : FolderState) (old : Parts) (edit : List Change)
@@ -360,19 +395,21 @@ lacks_next before old edit = record {
   accepted = tt;
   refused = λ tree state e is. tt;
   kind = tt;
+  shown = keeps_itself old.shown.links;
+  has_plan = tt;
 }
 
 -- whatever comes of the map
 module _ (before middle : FolderState) (old mid : Parts) (edit : List Change) (over between : Over)
     (entries later_entries : List (List ℕ)) (is_copy : (path : List ℕ) → over_at over path ≡ over_at old.known.laid path)
-    (are_copied : entries ≡ old.config.entries) (same : IsAsBefore old mid)
+    (are_copied : entries ≡ old.config.entries) (same : IsAsBefore old mid) (same_shown : mid.shown ≡ old.shown)
     (makes : MakesAll edit (work before old.known over entries) (Ok tt) (work middle mid.known between later_entries))
     (after : FolderState) (new : Parts) where
   pub made_next : (result : Next) → GeneratesNext middle mid between later_entries result after new
       → MakesNext before old edit result after new
   made_next (Ok pending) generates =
-      accepted_next before middle old mid edit over between entries later_entries is_copy are_copied same makes after new
+      accepted_next before middle old mid edit over between entries later_entries is_copy are_copied same same_shown makes after new
       pending generates
   made_next (Err stop) generates =
-      refused_next before middle old mid edit over between entries later_entries is_copy are_copied same makes after new
+      refused_next before middle old mid edit over between entries later_entries is_copy are_copied same same_shown makes after new
       stop generates

@@ -1,5 +1,6 @@
 pub mod Agreement
 pub mod KeptAnswers
+pub mod Shown
 pub mod SessionTrees
 pub mod SessionParts
 pub mod NewLooks

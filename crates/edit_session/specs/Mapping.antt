@@ -1,4 +1,5 @@
 -- A generation by kept answers.
+--     IfKnown right before known P         of the tree that is seen, where what is kept is right
 --     GeneratesIf right config before known result after later      where what is kept is right, what generation gives;
 --                                          and whatever is kept, all that is owed of a folder that tells no tree
 --     IsKeptFor kept config next seen      what is kept next are the answers of the trace of what is seen, if what was
@@ -18,6 +19,9 @@ use Rattle.generation.specs.Generating.{GeneratingOver, IfSeen}
 use Rattle.generation.specs.declared.generated.Generated.{Generated}
 use Rattle.generation.specs.declared.stop.Stop.{Stop}
 use Rattle.edit_session.specs.KeptAnswers.{AreAnswersOf}
+
+abbrev pub IfKnown : Type 0 → FolderState → Known → (Tree → Type 0) → Type 0
+IfKnown right before known P = right → IfSome before.holds (λ tree. IfSeen tree known P)
 
 -- own: and whatever is kept, the tree is as before, and so is what a look at each path answers
 pub record GeneratesIf (right : Type 0) (config : Config) (before : FolderState) (known : Known)

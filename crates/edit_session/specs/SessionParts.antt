@@ -1,6 +1,6 @@
 -- What an edit is made from, and what it makes.
---     Parts                           what is known, the config, the map, and the answers that are kept
---     parts known config generated answers      those of a session
+--     Parts                           what is known, the config, the map, the answers that are kept, and what is shown
+--     parts known config generated answers shown      those of a session
 --     parts_of session                the same
 --     IsPartsOf tree parts state      the tree stands behind them, and this is their state
 --     pending_over over made          what is pending, where these are the looks of the edit
@@ -16,6 +16,7 @@ use Rattle.kept_trace.specs.declared.kept.TraceAnswers.{TraceAnswers}
 use Rattle.session_spec.specs.SessionStates.{SessionState}
 use Rattle.edit_session.specs.KeptAnswers.{AreAnswersOf}
 use Rattle.edit_session.specs.SessionTrees.{IsStateOf}
+use Rattle.edit_session.specs.Shown.{Shows}
 use Rattle.edit_session.specs.declared.made.Made.{Made}
 use Rattle.edit_session.specs.declared.session.Pending.{Pending}
 use Rattle.edit_session.specs.declared.session.Session.{Session}
@@ -26,13 +27,14 @@ pub record Parts : Type 0 where
   pub config : Config
   pub generated : Generated
   pub answers : TraceAnswers
+  pub shown : Shows
 
-abbrev pub parts : Known → Config → Generated → TraceAnswers → Parts
-parts known config generated answers =
-    record { known = known; config = config; generated = generated; answers = answers }
+abbrev pub parts : Known → Config → Generated → TraceAnswers → Shows → Parts
+parts known config generated answers shown =
+    record { known = known; config = config; generated = generated; answers = answers; shown = shown }
 
 abbrev pub parts_of : Session → Parts
-parts_of session = parts session.known session.config session.generated session.answers
+parts_of session = parts session.known session.config session.generated session.answers session.shown
 
 pub record IsPartsOf (tree : Tree) (own : Parts) (state : SessionState) : Type 0 where
   pub stands : StandsBehind tree own.known

@@ -8,7 +8,7 @@
 --     Prepares before old edit result after new       an edit that is prepared
 --     Commits old new                 what is pending becomes the state
 use Rattle.std.specs.Prelude.{◌≡◌, ◌↔◌, ⊤, [], ℕ, List, true, Some, None, Result, Err, IfOk, IfErr, IfSome, OnOk, OnErr}
-use Rattle.std.specs.Prelude.{is_some, Ok}
+use Rattle.std.specs.Prelude.{◌≤◌, length, is_some, Ok}
 use Rattle.tree_spec.specs.States.{FolderState, OnlyLooks}
 use Rattle.tree_spec.specs.Trees.{Tree}
 use Rattle.trace_spec.specs.Modules.{Config}
@@ -28,8 +28,11 @@ use Rattle.session_spec.specs.EditLooks.{IsEditLook}
 use Rattle.session_spec.specs.Edits.{Draft, edited}
 use Rattle.session_spec.specs.Replies.{IsRefused, IsAccepted, fault_line}
 use Rattle.session_spec.specs.SessionStates.{SessionState, draft_of, config_with}
+use Rattle.graph_repair.specs.declared.parts.Plan.{Plan}
+use Rattle.session_spec.specs.Showings.{NextShowing, made_at_once}
 use Rattle.edit_session.specs.NewLooks.{AsksKept, LooksNew}
-use Rattle.edit_session.specs.SessionTrees.{IsSessionOf, IsPendingOf}
+use Rattle.edit_session.specs.Shown.{KeepsShown, IsNextShown, NoMorePlaces}
+use Rattle.edit_session.specs.SessionTrees.{IsSessionOf, IsPendingOf, shown_in, showing_in}
 use Rattle.edit_session.specs.declared.session.Pending.{Pending}
 use Rattle.edit_session.specs.declared.session.Prepared.{Prepared}
 use Rattle.edit_session.specs.declared.session.Prepared.TheVariants.{Same, Changed}
@@ -52,6 +55,7 @@ pub record OpensSession (config : Config) (before : FolderState) (result : Resul
   pub page : IfOk result (λ session. PageIsFile config)
   pub nothing_laid : IfOk result (λ session. (path : List ℕ) → laid_at session.known path ≡ None)
   pub nothing_pending : IfOk result (λ session. session.pending ≡ None)
+  pub places : IfOk result (λ session. length (shown_in session).graph ≤ made_at_once)
   pub refused :
       IfErr result (generating.IfRefused (λ why. IfSome before.holds (λ tree. Refuses tree config Refresh why)))
   pub kind : IfErr result (generating.IfRefused (λ why. IsRefusalOf config Refresh why))
@@ -95,12 +99,13 @@ pub record Accepts (tree : Tree) (state : SessionState) (edit : List Change) (se
   pub is_pending : IsPendingOf tree session next
   pub accepted : IsAccepted state edit next line
 
--- own: config, laid looks, map and counts are as before, whatever comes of it. An edit without changes is prepared, and
--- for it alone nothing is generated
+-- own: config, laid looks, map, counts and what is shown are as before, whatever comes of it. An edit without changes is
+-- prepared, and for it alone nothing is generated
 pub record Prepares (before : FolderState) (old : Session) (edit : List Change) (result : Result (Unit {0}) EditStop)
     (after : FolderState) (new : Session) : Type 0 where
   pub config : new.config ≡ old.config
   pub generated : new.generated ≡ old.generated
+  pub shown : KeepsShown (shown_in old) (shown_in new)
   pub looks :
       LooksNew before old.known after new.known (result ≡ Err ReadFault) (result ≡ Err Memory)
       (λ path. IfSome before.holds
@@ -124,17 +129,21 @@ pub record Prepares (before : FolderState) (old : Session) (edit : List Change) 
 
 -- ---- a step
 
--- own: laid looks, entries, map and counts are those that were pending, on any folder
+-- own: laid looks, entries, map and counts are those that were pending, and what was planned is shown, on any folder. No
+-- place is made, except those of a new graph
 pub record StepsTo (old : Session) (pending : Pending) (new : Session) : Type 0 where
   pub laid : new.known.laid ≡ pending.over
   pub config : new.config ≡ config_with old.config pending.entries
   pub generated : new.generated ≡ pending.generated
+  pub shown : (plan : Plan) → old.shown.plan ≡ Some plan → IsNextShown (shown_in old) plan (shown_in new)
+  pub places : NoMorePlaces (shown_in old) (shown_in new)
 
--- own: laid looks, entries, map and counts stay
+-- own: laid looks, entries, map, counts and what is shown stay
 pub record StaysAs (old new : Session) : Type 0 where
   pub laid : new.known.laid ≡ old.known.laid
   pub config : new.config ≡ old.config
   pub generated : new.generated ≡ old.generated
+  pub shown : shown_in new ≡ shown_in old
 
 abbrev pub BecomesBy : Session → Prepared → Session → Type 0
 BecomesBy old Same new = StaysAs old new
@@ -144,6 +153,9 @@ pub record Commits (old new : Session) : Type 0 where
   pub becomes :
       (tree : Tree) (state next : SessionState) → IsSessionOf tree old state → IsPendingOf tree old next
       → IsSessionOf tree new next
+  pub slots :
+      (tree : Tree) (state next : SessionState) → IsSessionOf tree old state → IsPendingOf tree old next
+      → NextShowing (length (shown_in old).graph) state.tree (showing_in old) next.tree (showing_in new)
   pub steps : (prepared : Prepared) → old.pending ≡ Some prepared → BecomesBy old prepared new
   pub kept : (path : List ℕ) → kept_at new.known path ≡ kept_at old.known path
   pub nothing_pending : new.pending ≡ None

@@ -1,6 +1,6 @@
 -- The steps of an edit.
---     LeadsTo tree state edit config pending kept      the edit leads to what is pending, for this config, and these
---                                             are the answers of its trace
+--     LeadsTo tree state edit config pending kept shown      the edit leads to what is pending, for this config, these
+--                                             are the answers of its trace, and by its plan it is shown
 --     LacksMap tree config stop               for this reason there is no map
 --     CanLackMap config stop                  there can be none, whatever the folder tells
 --     IsAsBefore old new                      but for what is kept, the parts are as before
@@ -8,12 +8,13 @@
 --     MakesNext before old edit result after new                  what is pending of an edit
 --     TakesFreshOf before old edit from to    an edit takes so many steps
 --     IsStep old pending new                  what is pending becomes the state
-use Rattle.std.specs.Prelude.{◌≡◌, ⊤, ℕ, List, Some, Result, Err, IfOk, IfErr}
+use Rattle.std.specs.Prelude.{◌≡◌, ⊤, ℕ, List, true, is_some, Some, Result, Err, IfOk, IfErr, OnOk}
 use Rattle.std.specs.FinMap.{get}
 use Rattle.tree_spec.specs.States.{FolderState}
 use Rattle.tree_spec.specs.Trees.{Tree}
 use Rattle.trace_spec.specs.Laws.{IsLookedAt}
 use Rattle.trace_spec.specs.Modules.{Config}
+use Rattle.graph_repair.specs.declared.parts.Plan.{Plan}
 use Rattle.config_spec.specs.declared.Command.TheVariants.{Refresh}
 use Rattle.generator_spec.specs.Commands.{Refuses, IsRefusalOf}
 use Rattle.package_lookup.specs.declared.over.Over.{Over}
@@ -29,6 +30,7 @@ use Rattle.session_spec.specs.Frugality.{IsFrugal}
 use Rattle.edit_session.specs.KeptAnswers.{AreAnswersOf}
 use Rattle.edit_session.specs.LooksOn.{LooksOn}
 use Rattle.edit_session.specs.Mapping.{IsKeptFor}
+use Rattle.edit_session.specs.Shown.{Shows, KeepsShown, IsNextShown, NoMorePlaces, PlansFor}
 use Rattle.edit_session.specs.Sessions.{StopsEdit, CanStopEdit}
 use Rattle.edit_session.specs.SessionTrees.{IsStateOf, counts_in}
 use Rattle.edit_session.specs.Trying.{IfLaid}
@@ -38,12 +40,13 @@ use Rattle.edit_session.specs.declared.stop.EditStop.{EditStop}
 use Rattle.edit_session.specs.declared.stop.EditStop.TheVariants.{Change as NoChange, Generation, ReadFault, Memory}
 
 pub record LeadsTo (tree : Tree) (state : SessionState) (edit : List Change) (config : Config) (pending : Pending)
-    (kept : Kept) : Type 0 where
+    (kept : Kept) (shown : Shows) : Type 0 where
   pub next : SessionState
   pub line : List ℕ
   pub is_state : IsStateOf tree pending.over (config_with config pending.entries) pending.generated next
   pub accepted : IsAccepted state edit next line
   pub answers : AreAnswersOf kept next.tree next.config
+  pub plans : PlansFor (λ P. P next.tree) next.config shown
 
 -- own: a generation stops for no change
 abbrev pub LacksMap : Tree → Config → EditStop → Type 0
@@ -83,6 +86,10 @@ pub record GeneratesNext (before : FolderState) (old : Parts) (over : Over) (ent
   pub keeps :
       IfOk result (λ pending. IfLaid (AreAllRight old.answers.kept) before old.known over
       (IsKeptFor old.answers.kept (config_with old.config entries) new.answers.next))
+  pub shown : KeepsShown old.shown.links new.shown.links
+  pub plans :
+      OnOk result (PlansFor (IfLaid (AreAllRight old.answers.kept) before old.known over)
+      (config_with old.config entries) new.shown)
 
 pub record MakesNext (before : FolderState) (old : Parts) (edit : List Change) (result : Result Pending EditStop)
     (after : FolderState) (new : Parts) : Type 0 where
@@ -92,11 +99,13 @@ pub record MakesNext (before : FolderState) (old : Parts) (edit : List Change) (
       (λ tree path. (state : SessionState) → IsPartsOf tree old state → IsEditLook state edit path)
   pub accepted :
       IfOk result (λ pending. (tree : Tree) (state : SessionState) → before.holds ≡ Some tree
-      → IsPartsOf tree old state → LeadsTo tree state edit old.config pending new.answers.next)
+      → IsPartsOf tree old state → LeadsTo tree state edit old.config pending new.answers.next new.shown)
   pub refused :
       IfErr result (λ stop. (tree : Tree) (state : SessionState) → before.holds ≡ Some tree
       → IsPartsOf tree old state → StopsEdit state edit stop)
   pub kind : IfErr result (CanStopEdit old.config edit)
+  pub shown : KeepsShown old.shown.links new.shown.links
+  pub has_plan : OnOk result (is_some new.shown.plan ≡ true)
 
 -- own: each state of these parts
 abbrev pub TakesFreshOf : FolderState → Parts → List Change → ℕ → ℕ → Type 0
@@ -110,3 +119,5 @@ pub record IsStep (old : Parts) (pending : Pending) (new : Parts) : Type 0 where
   pub config : new.config ≡ config_with old.config pending.entries
   pub generated : new.generated ≡ pending.generated
   pub answers : new.answers.kept ≡ old.answers.next
+  pub shown : (plan : Plan) → old.shown.plan ≡ Some plan → IsNextShown old.shown.links plan new.shown.links
+  pub places : NoMorePlaces old.shown.links new.shown.links

@@ -5,6 +5,7 @@ ghost use Rattle.package_lookup.specs.Looked.{over_at, Puts};
 ghost use Rattle.request_trace.specs.Tracing.{StepsByFresh, TakesSteps};
 ghost use Rattle.session_spec.specs.SessionStates.{config_with};
 ghost use Rattle.edit_session.specs.Mapping.{IsKeptFor};
+ghost use Rattle.edit_session.specs.Shown.{KeepsShown, PlansFor};
 ghost use Rattle.edit_session.specs.SessionTrees.{steps_of};
 ghost use Rattle.edit_session.specs.Agreement.{AgreeBut};
 ghost use Rattle.edit_session.specs.Standings.{Stands};
@@ -12,6 +13,7 @@ ghost use Rattle.edit_session.specs.declared.standing.Standing.TheVariants.{Noth
 ghost use Rattle.edit_session.specs.Trying.{IfLaid, TriesMap};
 
 use crate::entries::Entries;
+use crate::showing::Showing;
 use crate::standing::{Standing, standing_of};
 use crate::trying::try_map;
 use generation::{Generated, Stop};
@@ -83,6 +85,7 @@ impl Looks {
         &mut self,
         alloc: Global,
         answers: &mut TraceAnswers,
+        shown: &mut Showing,
         config: &mut Config,
         entries: &mut Entries,
         folder: &mut F,
@@ -99,10 +102,14 @@ impl Looks {
         ensures kept { answers.new.kept ≡ answers.old.kept }
         ensures keeps { OnOk result (IfLaid (AreAllRight answers.old.kept) (F.state folder.old) self.old.known
             self.old.over (IsKeptFor answers.old.kept (config_with config.old entries.old) answers.new.next)) }
+        ensures shown { KeepsShown shown.old.links shown.new.links }
+        ensures plans { OnOk result (PlansFor (IfLaid (AreAllRight answers.old.kept) (F.state folder.old)
+            self.old.known self.old.over) (config_with config.old entries.old) shown.new) }
     {
         try_map(
             alloc,
             answers,
+            shown,
             &mut self.known,
             config,
             &mut self.over,

@@ -1,15 +1,18 @@
-ghost use Rattle.std.specs.Prelude.{◌≡◌, None, Some, true, is_some, IfSome};
+ghost use Rattle.std.specs.Prelude.{◌≡◌, None, Some, true, is_some, All, IfSome};
 ghost use Rattle.request_trace.specs.Tracing.{TakesSteps};
 ghost use Rattle.kept_trace.specs.Ready.{IsEmptyUnder};
-ghost use Rattle.edit_session.specs.Agreement.{AgreeBut, next_over};
+ghost use Rattle.trace_graph.specs.Links.{IsLive};
+ghost use Rattle.edit_session.specs.Agreement.{AgreeBut, next_over, is_changed};
 
 use crate::entries::Entries;
 use crate::looks::Looks;
 use crate::made::Made;
 use crate::mapping::map_again;
+use crate::showing::Showing;
 use crate::steps::{next, step};
 use crate::stop::EditStop;
 use generation::{Generated, Stop};
+use graph_repair::{Slot, View};
 use kept_trace::TraceAnswers;
 use package_lookup::{Known, Over};
 use request_trace::Config;
@@ -32,8 +35,8 @@ pub struct Counts {
 }
 
 /// A map that is kept current: the config, what was seen of the folder, what edits laid over it, the map that is
-/// generated for these, and the answers of its trace, by which the next one is made; and beside them what an edit that
-/// is prepared would make of them.
+/// generated for these, the answers of its trace, by which the next one is made, and the trace's modules; and beside
+/// them what an edit that is prepared would make of them.
 #[derive(Drop)]
 pub struct Session {
     known: Known,
@@ -41,12 +44,15 @@ pub struct Session {
     generated: Generated,
     // Those of the map's trace; and those of the trace behind what is pending, if a map is.
     answers: TraceAnswers,
+    // The modules of the map's trace; and the plan to show those of the trace behind what is pending, if a map is.
+    shown: Showing,
     pending: Option<Prepared>,
     // Looks for the next edit, unless what is pending has them; and the paths at which they may be others than those
     // that are laid.
     spare: Over,
     changed: Vec<Path>,
     ghost agree: { AgreeBut changed.items known.laid (next_over spare pending) },
+    ghost planned: { is_changed pending ≡ true → is_some shown.plan ≡ true },
 }
 
 /// What an edit that is prepared makes of a session.
@@ -70,7 +76,7 @@ impl Session {
     ghost use Rattle.generation.specs.Generating.{StepsToEnd};
     ghost use Rattle.session_spec.specs.SessionStates.{SessionState};
     ghost use Rattle.session_spec.specs.Frugality.{IsFrugal};
-    ghost use Rattle.edit_session.specs.SessionTrees.{IsSessionOf, shown_map, shown_counts, counts_told};
+    ghost use Rattle.edit_session.specs.SessionTrees.{IsSessionOf, shown_in, shown_map, shown_counts, counts_told};
     ghost use Rattle.edit_session.specs.SessionTrees.{steps_of, pending_steps};
     ghost use Rattle.edit_session.specs.SessionParts.{pending_over};
     ghost use Rattle.edit_session.specs.declared.session.Prepared.TheVariants.{Same, Changed};
@@ -108,10 +114,20 @@ impl Session {
     {
         let mut answers = answers;
         let mut known = Known::new(alloc);
-        match map_again(alloc, &mut answers, folder, &mut known, &config, steps) {
+        let mut shown = Showing::new(alloc);
+        match map_again(
+            alloc,
+            &mut answers,
+            &mut shown,
+            folder,
+            &mut known,
+            &config,
+            steps,
+        ) {
             Err(stop) => Err(stop),
             Ok(generated) => {
                 answers.exchange();
+                shown.commit();
                 let spare = Over::new(alloc);
                 let changed = Vec::new(alloc);
                 Ok(Session {
@@ -119,6 +135,7 @@ impl Session {
                     config,
                     generated,
                     answers,
+                    shown,
                     pending: None,
                     spare,
                     changed,
@@ -152,6 +169,7 @@ impl Session {
         match next(
             alloc,
             &mut self.answers,
+            &mut self.shown,
             &mut looks,
             &mut self.config,
             edit,
@@ -175,6 +193,7 @@ impl Session {
         ensures config { self.new.config ≡ self.old.config }
         ensures generated { self.new.generated ≡ self.old.generated }
         ensures answers { self.new.answers ≡ self.old.answers }
+        ensures shown { self.new.shown ≡ self.old.shown }
         ensures pending { self.new.pending ≡ None }
     {
         let spare = mem::replace(&mut self.spare, Over::new(alloc));
@@ -208,6 +227,7 @@ impl Session {
         ensures config { self.new.config ≡ self.old.config }
         ensures generated { self.new.generated ≡ self.old.generated }
         ensures answers { self.new.answers ≡ self.old.answers }
+        ensures shown { self.new.shown ≡ self.old.shown }
         ensures pending { self.new.pending ≡ None }
     {
         let Looks {
@@ -226,6 +246,7 @@ impl Session {
         ensures config { self.new.config ≡ self.old.config }
         ensures generated { self.new.generated ≡ self.old.generated }
         ensures answers { self.new.answers ≡ self.old.answers }
+        ensures shown { self.new.shown ≡ self.old.shown }
         ensures pending { self.new.pending ≡ Some Same }
     {
         self.put_back(looks);
@@ -233,10 +254,12 @@ impl Session {
     }
 
     fn put_pending(&mut self, looks: Looks, made: Made)
+        requires { is_some self.old.shown.plan ≡ true }
         ensures known { self.new.known ≡ looks.known }
         ensures config { self.new.config ≡ self.old.config }
         ensures generated { self.new.generated ≡ self.old.generated }
         ensures answers { self.new.answers ≡ self.old.answers }
+        ensures shown { self.new.shown ≡ self.old.shown }
         ensures pending { self.new.pending ≡ Some (Changed (pending_over looks.over made)) }
     {
         let Looks {
@@ -268,6 +291,7 @@ impl Session {
                 &mut self.config,
                 &mut self.generated,
                 &mut self.answers,
+                &mut self.shown,
                 &mut self.spare,
                 pending,
             ),
@@ -286,6 +310,22 @@ impl Session {
         ensures { result.now ≡ shown_map self.now }
     {
         self.generated.map.as_slice()
+    }
+
+    /// The modules of the map's trace, as a graph: each has one slot, and each of their requests has the slot of the
+    /// module to which it leads. An edit that is prepared isn't seen in it.
+    pub fn view(&self) -> View<'_>
+        ensures { result ≡ (shown_in self.now).graph }
+    {
+        self.shown.view()
+    }
+
+    /// The slots of these modules, in trace order.
+    pub fn slots(&self) -> &[Slot]
+        ensures slots { result.now ≡ (shown_in self.now).slots }
+        ensures live { All (IsLive (shown_in self.now).graph) (shown_in self.now).slots }
+    {
+        self.shown.slots()
     }
 
     /// What is told of the map.

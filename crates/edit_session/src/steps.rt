@@ -1,4 +1,4 @@
-ghost use Rattle.std.specs.Prelude.{◌≡◌, ℕ, List, IfOk, OnOk};
+ghost use Rattle.std.specs.Prelude.{◌≡◌, ℕ, List, true, is_some, IfOk, OnOk};
 ghost use Rattle.std.specs.FinMap.{get};
 ghost use Rattle.generation.specs.declared.generated.Generated.{Generated};
 ghost use Rattle.package_lookup.specs.Looked.{over_at};
@@ -15,6 +15,7 @@ use crate::entries::Entries;
 use crate::looks::Looks;
 use crate::made::Made;
 use crate::session::{Edit, Pending};
+use crate::showing::Showing;
 use crate::stop::EditStop;
 use generation::Generated;
 use kept_trace::TraceAnswers;
@@ -29,6 +30,7 @@ use tree_model::Folder;
 pub(crate) fn next<F: Folder, L: Ledger>(
     alloc: Global,
     answers: &mut TraceAnswers,
+    shown: &mut Showing,
     looks: &mut Looks,
     config: &mut Config,
     edit: &Edit,
@@ -36,16 +38,18 @@ pub(crate) fn next<F: Folder, L: Ledger>(
     steps: &mut Steps<L>,
 ) -> Result<Made, EditStop>
     ensures makes { (generated : Generated) → MakesNext (F.state folder.old)
-        (parts looks.old.known config.old generated answers.old) edit.now (result_over looks.new.over result)
-        (F.state folder.new) (parts looks.new.known config.new generated answers.new) }
+        (parts looks.old.known config.old generated answers.old shown.old) edit.now (result_over looks.new.over result)
+        (F.state folder.new) (parts looks.new.known config.new generated answers.new shown.new) }
     ensures config { config.new ≡ config.old }
     ensures steps { TakesSteps result (λ made. steps_of made.generated) steps.old steps.new }
     ensures fresh { (generated : Generated) → TakesFreshOf (F.state folder.old)
-        (parts looks.old.known config.old generated answers.old) edit.now steps.old steps.new }
+        (parts looks.old.known config.old generated answers.old shown.old) edit.now steps.old steps.new }
 {
     match draft(alloc, looks, config) {
         Err(_) => Err(EditStop::Memory),
-        Ok(entries) => make(alloc, answers, looks, config, entries, edit, folder, steps),
+        Ok(entries) => make(
+            alloc, answers, shown, looks, config, entries, edit, folder, steps,
+        ),
     }
 }
 
@@ -64,6 +68,7 @@ fn draft(alloc: Global, looks: &mut Looks, config: &Config) -> Result<Entries, M
 fn make<F: Folder, L: Ledger>(
     alloc: Global,
     answers: &mut TraceAnswers,
+    shown: &mut Showing,
     looks: &mut Looks,
     config: &mut Config,
     entries: Entries,
@@ -74,17 +79,17 @@ fn make<F: Folder, L: Ledger>(
     requires over { (path : List ℕ) → over_at looks.old.over path ≡ over_at looks.old.known.laid path }
     requires entries { entries ≡ config.old.entries }
     ensures makes { (generated : Generated) → MakesNext (F.state folder.old)
-        (parts looks.old.known config.old generated answers.old) edit.now (result_over looks.new.over result)
-        (F.state folder.new) (parts looks.new.known config.new generated answers.new) }
+        (parts looks.old.known config.old generated answers.old shown.old) edit.now (result_over looks.new.over result)
+        (F.state folder.new) (parts looks.new.known config.new generated answers.new shown.new) }
     ensures config { config.new ≡ config.old }
     ensures steps { TakesSteps result (λ made. steps_of made.generated) steps.old steps.new }
     ensures fresh { (generated : Generated) → TakesFreshOf (F.state folder.old)
-        (parts looks.old.known config.old generated answers.old) edit.now steps.old steps.new }
+        (parts looks.old.known config.old generated answers.old shown.old) edit.now steps.old steps.new }
 {
     let mut entries = entries;
     match make_all(alloc, looks, &mut entries, folder, edit.as_slice()) {
         Err(stop) => Err(EditStop::of_change(stop)),
-        Ok(()) => generate(alloc, answers, looks, config, entries, folder, steps),
+        Ok(()) => generate(alloc, answers, shown, looks, config, entries, folder, steps),
     }
 }
 
@@ -92,6 +97,7 @@ fn make<F: Folder, L: Ledger>(
 fn generate<F: Folder, L: Ledger>(
     alloc: Global,
     answers: &mut TraceAnswers,
+    shown: &mut Showing,
     looks: &mut Looks,
     config: &mut Config,
     entries: Entries,
@@ -99,9 +105,9 @@ fn generate<F: Folder, L: Ledger>(
     steps: &mut Steps<L>,
 ) -> Result<Made, EditStop>
     ensures generates { (generated : Generated) → GeneratesNext (F.state folder.old)
-        (parts looks.old.known config.old generated answers.old) looks.old.over entries
+        (parts looks.old.known config.old generated answers.old shown.old) looks.old.over entries
         (result_over looks.new.over result) (F.state folder.new)
-        (parts looks.new.known config.new generated answers.new) }
+        (parts looks.new.known config.new generated answers.new shown.new) }
     ensures config { config.new ≡ config.old }
     ensures steps { TakesSteps result (λ made. steps_of made.generated) steps.old steps.new }
     ensures fresh { IfLaid (AreAllRight answers.old.kept) (F.state folder.old) looks.old.known looks.old.over
@@ -109,7 +115,7 @@ fn generate<F: Folder, L: Ledger>(
         steps.old steps.new) }
 {
     let mut entries = entries;
-    let found = looks.try_map(alloc, answers, config, &mut entries, folder, steps);
+    let found = looks.try_map(alloc, answers, shown, config, &mut entries, folder, steps);
     match found {
         Err(stop) => Err(EditStop::of_map(stop)),
         Ok(generated) => Ok(Made { entries, generated }),
@@ -117,17 +123,19 @@ fn generate<F: Folder, L: Ledger>(
 }
 
 /// What is pending takes the place of what was, the looks that were laid that of the spare ones, and the answers of the
-/// trace behind what is pending that of those that were kept.
+/// trace behind what is pending that of those that were kept; its modules are shown.
 pub(crate) fn step(
     known: &mut Known,
     config: &mut Config,
     generated: &mut Generated,
     answers: &mut TraceAnswers,
+    shown: &mut Showing,
     spare: &mut Over,
     pending: Pending,
 )
-    ensures step { IsStep (parts known.old config.old generated.old answers.old) pending
-        (parts known.new config.new generated.new answers.new) }
+    requires { is_some shown.old.plan ≡ true }
+    ensures step { IsStep (parts known.old config.old generated.old answers.old shown.old) pending
+        (parts known.new config.new generated.new answers.new shown.new) }
     ensures spare { spare.new ≡ known.old.laid }
 {
     let Pending {
@@ -141,5 +149,6 @@ pub(crate) fn step(
     entries.exchange(config);
     *generated = map;
     answers.exchange();
+    shown.commit();
     *spare = over;
 }

@@ -4,11 +4,13 @@ ghost use Rattle.kept_trace.specs.Ready.{AreAllRight, is_anew};
 ghost use Rattle.request_trace.specs.Tracing.{StepsByFresh, TakesSteps};
 ghost use Rattle.session_spec.specs.SessionStates.{config_with};
 ghost use Rattle.edit_session.specs.Mapping.{IsKeptFor};
+ghost use Rattle.edit_session.specs.Shown.{KeepsShown, PlansFor};
 ghost use Rattle.edit_session.specs.SessionTrees.{steps_of};
 ghost use Rattle.edit_session.specs.Trying.{IfLaid, TriesMap};
 
 use crate::entries::Entries;
 use crate::mapping::map_again;
+use crate::showing::Showing;
 use generation::{Generated, Stop};
 use kept_trace::TraceAnswers;
 use package_lookup::{Known, Over};
@@ -22,6 +24,7 @@ use tree_model::Folder;
 pub(crate) fn try_map<F: Folder, L: Ledger>(
     alloc: Global,
     answers: &mut TraceAnswers,
+    shown: &mut Showing,
     known: &mut Known,
     config: &mut Config,
     over: &mut Over,
@@ -40,10 +43,13 @@ pub(crate) fn try_map<F: Folder, L: Ledger>(
     ensures kept { answers.new.kept ≡ answers.old.kept }
     ensures keeps { OnOk result (IfLaid (AreAllRight answers.old.kept) (F.state folder.old) known.old
         over.old (IsKeptFor answers.old.kept (config_with config.old entries.old) answers.new.next)) }
+    ensures shown { KeepsShown shown.old.links shown.new.links }
+    ensures plans { OnOk result (PlansFor (IfLaid (AreAllRight answers.old.kept) (F.state folder.old) known.old over.old)
+        (config_with config.old entries.old) shown.new) }
 {
     known.lay(over);
     entries.exchange(config);
-    let made = map_again(alloc, answers, folder, known, config, steps);
+    let made = map_again(alloc, answers, shown, folder, known, config, steps);
     entries.exchange(config);
     known.lay(over);
     made

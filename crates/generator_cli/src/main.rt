@@ -8,7 +8,7 @@ ghost use Rattle.std.specs.Prelude.{◌≡◌, ◌<◌, ℕ};
 mod unplain;
 
 use disk_devices::{DiskFolder, StdSink, StdSource};
-use generator_core::run;
+use generator_core::{Unwatched, run};
 use run_texts::{BAD_WORDS, MEMORY, WRITE_FAULT, memory_line};
 use shared_types::Steps;
 use std::marker::Brand;
@@ -42,6 +42,7 @@ fn start<R: Runtime + AllocGlobal, L: Ledger>(rt: &R, words: &[String], blank: B
         &mut folder,
         &mut input,
         &mut output,
+        &mut Unwatched,
         &mut steps,
     );
     if let Some(trouble) = folder.trouble() {

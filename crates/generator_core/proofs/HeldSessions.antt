@@ -28,15 +28,18 @@ use Rattle.generator_spec.specs.Outcome.{RefusesRun, RefusesRun as refuses_run}
 use Rattle.generator_spec.specs.Statuses.{memory_status, read_fault_status}
 use Rattle.session_input.proofs.ReaderLemmas.{takes_none}
 use Rattle.session_run.specs.Sessions.{HoldsSession}
-use Rattle.session_run.proofs.SessionLemmas.{none_awaited, none_front}
+use Rattle.session_run.proofs.SessionLemmas.{none_awaited, closed_yet, none_front}
 use Rattle.soundness.proofs.SessionMaps.{session_maps_serve}
 use Rattle.session_spec.specs.SessionRuns as runs
 use Rattle.session_spec.specs.SessionRuns.{RepliesTo as replies_to}
 use Rattle.session_spec.specs.Openings.{refresh_words, CanOpen}
 use Rattle.session_spec.specs.SessionLooks.{IsSessionLook, AsksFresh, AsksWithin}
 use Rattle.session_spec.specs.SessionRuns.{StatesServe, NoFault, RepliesTo, RepliesToAll, SessionComesTo, SessionSays, SessionStops, SessionEnds}
-use Rattle.session_spec.specs.SessionSteps.{SpendsOn}
+use Rattle.session_spec.specs.SessionDoings.{SessionDoes}
+use Rattle.session_spec.specs.Showings.{Shown}
+use Rattle.session_spec.proofs.SessionDoing.{none_done}
 use Rattle.session_spec.proofs.SessionSpending.{none_spent}
+use Rattle.session_talk.proofs.TalkLemmas.{sees_nothing}
 use Rattle.session_spec.proofs.TakenFronts.{no_take}
 use Rattle.session_spec.specs.TakenInput.{NoTake}
 use Rattle.generator_core.specs.Configuring.{StopsConfig, StopsConfig as stops_config}
@@ -73,16 +76,16 @@ module _ (before middle after : FolderState) (same_tree : middle.holds ≡ befor
   no_fault : NoFault middle after source later → NoFault before after source later
   no_fault none = (none.0 ∙ quiet, none.1)
 
-  says_before : (status : ℕ) (text : List ℕ) → SessionSays middle after source later taken status text → SessionSays before after source later taken status text
-  says_before status text (runs.outcome shaped none here whole) = runs.outcome shaped (no_fault none) (of_before (Comes status text) here) (of_before (ComesWhole status text) whole)
-  says_before status text (runs.memory front shaped none told is_status is_text) = runs.memory front shaped (no_fault none) (of_before (Replied front) told) is_status is_text
-  says_before status text (runs.look_fault front shaped rose same told is_status is_text) =
-      runs.look_fault front shaped (subst (λ (n : ℕ). Rose n after.look_faults) quiet rose) same (of_before (Replied front) told) is_status is_text
-  says_before status text (runs.take_fault front opened left_open same rose told is_status is_text) = runs.take_fault front opened left_open (same ∙ quiet) rose (of_before (AllReplied front) told) is_status is_text
+  says_before : (replied : List ℕ) (status : ℕ) (text : List ℕ) → SessionSays middle after source later taken replied status text → SessionSays before after source later taken replied status text
+  says_before replied status text (runs.outcome shaped none here whole) = runs.outcome shaped (no_fault none) (of_before (Comes status text) here) (of_before (ComesWhole status text) whole)
+  says_before replied status text (runs.memory shaped none told is_status is_text) = runs.memory shaped (no_fault none) (of_before (Replied replied) told) is_status is_text
+  says_before replied status text (runs.look_fault shaped rose same told is_status is_text) =
+      runs.look_fault shaped (subst (λ (n : ℕ). Rose n after.look_faults) quiet rose) same (of_before (Replied replied) told) is_status is_text
+  says_before replied status text (runs.take_fault opened left_open same rose told is_status is_text) = runs.take_fault opened left_open (same ∙ quiet) rose (of_before (AllReplied replied) told) is_status is_text
 
-  stops_before : (out gone : SinkState) (result : ℕ) → SessionStops middle after source later taken out gone result → SessionStops before after source later taken out gone result
-  stops_before out gone result (runs.said status text says ends) = runs.said status text (says_before status text says) ends
-  stops_before out gone result (runs.cut_off text opened none told is_status gives rose) = runs.cut_off text opened (no_fault none) (of_before (Replied text) told) is_status gives rose
+  stops_before : (replied : List ℕ) (out gone : SinkState) (result : ℕ) → SessionStops middle after source later taken replied out gone result → SessionStops before after source later taken replied out gone result
+  stops_before replied out gone result (runs.said status text says ends) = runs.said status text (says_before replied status text says) ends
+  stops_before replied out gone result (runs.cut_off opened none told is_status gives rose) = runs.cut_off opened (no_fault none) (of_before (Replied replied) told) is_status gives rose
 
 asks_both :
     (taken : List ℕ) (holds before_holds : Option Tree) → holds ≡ before_holds → (middle after : FolderState) (told : Option (List (List ℕ))) → IfSome told (λ old. AsksOwn (project_path ∷ []) old middle)
@@ -93,9 +96,9 @@ asks_both taken holds before_holds same middle after (Some old) own more =
     record { first = own.first; is_first = own.is_own; then = subst (λ (h : Option Tree). AsksFresh h taken (old ++ own.first) after) same new }
 
 pub ends_before :
-    (before middle after : FolderState) (source later : SourceState) (out gone : SinkState) (result spent spent_after : ℕ) → OnlyLooks before middle ⊥ → IfSome before.asked (λ old. AsksOwn (project_path ∷ []) old middle)
-    → HoldsSession middle after source later out gone result spent spent_after → SessionEnds before after source later out gone result spent spent_after
-ends_before before middle after source later out gone result spent spent_after looked own held =
+    (before middle after : FolderState) (source later : SourceState) (out gone : SinkState) (seen seen_after : Option (List (List Shown))) (result spent spent_after : ℕ) → OnlyLooks before middle ⊥ → IfSome before.asked (λ old. AsksOwn (project_path ∷ []) old middle)
+    → HoldsSession middle after source later out gone seen seen_after result spent spent_after → SessionEnds before after source later out gone seen seen_after result spent spent_after
+ends_before before middle after source later out gone seen seen_after result spent spent_after looked own held =
     let is = held.ends in
     let quiet = looked.quiet (λ e. e) in
     let looks_later = is.looks_later in
@@ -109,12 +112,13 @@ ends_before before middle after source later out gone result spent spent_after l
       few = is.few;
       awaited = is.awaited;
       opened = of_before before middle after looked.tree quiet source later is.taken (λ tree. NoTake source is.taken later ⊎ CanOpen tree) is.opened;
-      steps = record {
-        most = is.steps.most;
-        fresh = of_before before middle after looked.tree quiet source later is.taken (λ tree. SpendsOn tree is.taken spent spent_after) is.steps.fresh;
-      };
+      steps = is.steps;
+      replied = is.replied;
+      showings = is.showings;
+      sees = is.sees;
+      does = of_before before middle after looked.tree quiet source later is.taken (λ tree. SessionDoes tree is.taken spent is.replied spent_after is.showings) is.does;
       asked = asks_both is.taken middle.holds before.holds looked.tree middle after before.asked own held.fresh;
-      stops = stops_before before middle after looked.tree quiet source later is.taken out gone result is.stops;
+      stops = stops_before before middle after looked.tree quiet source later is.taken is.replied out gone result is.stops;
       serves = of_before before middle after looked.tree quiet source later is.taken (λ tree. StatesServe tree is.taken) is.serves;
     }
 
@@ -123,14 +127,14 @@ ends_before before middle after source later out gone result spent spent_after l
 nothing_fresh : (holds : Option Tree) (after : FolderState) (old : List (List ℕ)) → after.asked ≡ Some old → AsksFresh holds [] old after
 nothing_fresh holds after old is = record { more = []; asked = is ∙ ap Some (sym (append-nil old)); once = distinct_none; among = if_all holds (λ tree. All-nil (IsSessionLook tree [])) }
 
-module _ (before after : FolderState) (source : SourceState) (out gone : SinkState) (result spent : ℕ) where
+module _ (before after : FolderState) (source : SourceState) (out gone : SinkState) (seen : Option (List (List Shown))) (result spent : ℕ) where
   abbrev StopsAtOnce : Type 0
-  StopsAtOnce = SessionStops before after source source [] out gone result
+  StopsAtOnce = SessionStops before after source source [] [] out gone result
 
   nothing_said : IfSome before.holds (λ tree. RepliesTo tree [] [])
   nothing_said = if_all before.holds (λ tree. replies_to.unopened)
 
-  unopened_ends : {P : Type 0} → OnlyLooks before after P → out.faults ≤ gone.faults → IfSome before.asked (λ old. AsksOwn (project_path ∷ []) old after) → StopsAtOnce → SessionEnds before after source source out gone result spent spent
+  unopened_ends : {P : Type 0} → OnlyLooks before after P → out.faults ≤ gone.faults → IfSome before.asked (λ old. AsksOwn (project_path ∷ []) old after) → StopsAtOnce → SessionEnds before after source source out gone seen seen result spent spent
   unopened_ends looks output_later own stops = record {
     tree = looks.tree;
     writes = looks.writes;
@@ -142,31 +146,35 @@ module _ (before after : FolderState) (source : SourceState) (out gone : SinkSta
     awaited = none_awaited source;
     opened = if_all before.holds (λ tree. inl (no_take source));
     asked = if_some before.asked (λ old is. record { first = is.first; is_first = is.is_own; then = nothing_fresh before.holds after (old ++ is.first) is.asked }) own;
-    steps = none_spent before.holds [] spent;
+    steps = none_spent [] spent;
+    replied = [];
+    showings = [];
+    sees = sees_nothing seen;
+    does = none_done before.holds [] spent;
     stops = stops;
     serves = if_all before.holds (λ tree. session_maps_serve tree []);
   }
 
   memory_at_once : after.look_faults ≡ before.look_faults → Ends memory_status memory_line out gone result → StopsAtOnce
-  memory_at_once quiet told = runs.said memory_status memory_line (runs.memory [] (none_front source) (quiet, refl) nothing_said refl refl) told
+  memory_at_once quiet told = runs.said memory_status memory_line (runs.memory (none_front source) (quiet, refl) nothing_said refl refl) told
 
   refused_at_once : (why : Refusal) → CanRefuse refresh_words why → after.look_faults ≡ before.look_faults → IfSome before.holds (λ tree. RefusesRun refresh_words tree why) → TellsRefusal why out gone result → StopsAtOnce
   refused_at_once why can quiet refuses (inl told) =
       runs.said (status_of why) (line_of why)
-      (runs.outcome (inr (no_take source, record { why = why; can = can; ends = refl; says = refl })) (quiet, refl) (if_some before.holds (λ tree because. runs.refused why because) refuses)
+      (runs.outcome (inr (closed_yet source, record { why = why; can = can; ends = refl; says = refl })) (quiet, refl) (if_some before.holds (λ tree because. runs.refused why because) refuses)
       (if_some before.holds (λ tree because. if_all source.left (λ input. runs.refused why because)) refuses)) told
   refused_at_once why can quiet refuses (inr told) = memory_at_once quiet told
 
   abbrev IsOwn : Type 0
   IsOwn = IfSome before.asked (λ old. AsksOwn (project_path ∷ []) old after)
 
-  pub stopped_ends : (stop : Stop) → StopsConfig refresh_words before after stop → IsOwn → TellsStop stop out gone result → out.faults ≤ gone.faults → SessionEnds before after source source out gone result spent spent
+  pub stopped_ends : (stop : Stop) → StopsConfig refresh_words before after stop → IsOwn → TellsStop stop out gone result → out.faults ≤ gone.faults → SessionEnds before after source source out gone seen seen result spent spent
   stopped_ends stop (stops_config.refused fault same refuses can looks) own told later =
       unopened_ends looks later own
       (refused_at_once (Configured fault) (can_refuse.by_project fault can) (looks.quiet (λ e. e)) (if_some before.holds (λ tree because. refuses_run.by_project fault because) refuses) (subst (λ (s : Stop). TellsStop s out gone result) same told))
   stopped_ends stop (stops_config.read_fault same looks) own told later =
       unopened_ends looks later own
-      (runs.said read_fault_status read_fault_line (runs.look_fault [] (none_front source) (looks.cause same) refl nothing_said refl refl) (subst (λ (s : Stop). TellsStop s out gone result) same told))
+      (runs.said read_fault_status read_fault_line (runs.look_fault (none_front source) (looks.cause same) refl nothing_said refl refl) (subst (λ (s : Stop). TellsStop s out gone result) same told))
   stopped_ends stop (stops_config.memory same looks) own told later =
       unopened_ends looks later own (memory_at_once (looks.quiet (λ e. e)) (subst (λ (s : Stop). TellsStop s out gone result) same told))
 
@@ -177,10 +185,10 @@ own_of_nothing state = some_same state.asked _ (λ old is. record { first = []; 
 
 -- words that ask for a session are refused for want of memory alone
 pub unread_ends :
-    (words : List (List ℕ)) (state : FolderState) (source : SourceState) (out gone : SinkState) (result spent : ℕ) (fault : WordsFault) → Explains words fault → TellsWords fault out gone result → out.faults ≤ gone.faults → IsSession words
-    → SessionEnds state state source source out gone result spent spent
-unread_ends words state source out gone result spent (words_fault.Told text) why told later asks = absurd (why (record { asked = editing; asks = asks }))
-unread_ends words state source out gone result spent words_fault.NotPlain why told later asks = absurd (why (record { asked = editing; asks = asks }))
-unread_ends words state source out gone result spent (words_fault.Refused fault) why told later asks = absurd ((words_are_judged words).session_or_fault fault asks why)
-unread_ends words state source out gone result spent words_fault.Memory why told later asks =
-    unopened_ends state state source out gone result spent (still state) later (own_of_nothing state) (memory_at_once state state source out gone result spent refl told)
+    (words : List (List ℕ)) (state : FolderState) (source : SourceState) (out gone : SinkState) (seen : Option (List (List Shown))) (result spent : ℕ) (fault : WordsFault) → Explains words fault → TellsWords fault out gone result → out.faults ≤ gone.faults → IsSession words
+    → SessionEnds state state source source out gone seen seen result spent spent
+unread_ends words state source out gone seen result spent (words_fault.Told text) why told later asks = absurd (why (record { asked = editing; asks = asks }))
+unread_ends words state source out gone seen result spent words_fault.NotPlain why told later asks = absurd (why (record { asked = editing; asks = asks }))
+unread_ends words state source out gone seen result spent (words_fault.Refused fault) why told later asks = absurd ((words_are_judged words).session_or_fault fault asks why)
+unread_ends words state source out gone seen result spent words_fault.Memory why told later asks =
+    unopened_ends state state source out gone seen result spent (still state) later (own_of_nothing state) (memory_at_once state state source out gone seen result spent refl told)

@@ -5,24 +5,22 @@
 --                                                                    and requests
 --     OrderSpends command out out_after result before after      the same of a command on a project, with one step more
 --                                                                    a module where each is checked once more
+--     FitsOpening command config holds before after      no step, unless a told tree has what the command needs before
+--                                                        its trace
 --     FitsTrace command config holds before after      no more steps than a told tree's trace asks questions until it
---                                                      ends, and come behind it
+--                                                      ends, and come behind it; and so it is before the trace
 --     FitsWords words holds before after      so it is of words
-use Rattle.std.specs.Prelude.{◌≡◌, ◌≢◌, ◌≤◌, ◌+◌, ℕ, List, length, Option, Some, IfSome}
-use Rattle.std.specs.FinMap.{get}
+use Rattle.std.specs.Prelude.{◌≡◌, ◌≢◌, ◌≤◌, ◌⊎◌, ◌+◌, ℕ, List, Option, IfSome}
 use Rattle.tree_spec.specs.declared.LimitName.TheVariants.{Modules, Requests}
 use Rattle.tree_spec.specs.Limits.{limit_number}
 use Rattle.tree_spec.specs.States.{SinkState}
 use Rattle.tree_spec.specs.Trees.{Tree}
-use Rattle.trace_spec.specs.Laws.{asked_by_end}
 use Rattle.trace_spec.specs.Modules.{Config}
-use Rattle.trace_spec.specs.Questions.{Question}
-use Rattle.trace_spec.specs.Traces.{traced}
 use Rattle.config_spec.specs.declared.Command.{Command}
 use Rattle.config_spec.specs.declared.Command.TheVariants.{CheckStrictly}
-use Rattle.generator_spec.specs.Commands.{IsGenerating}
+use Rattle.generator_spec.specs.Commands.{IsGenerating, Opens}
 use Rattle.generator_spec.specs.Statuses.{done_status}
-use Rattle.generator_spec.specs.Steps.{SpendsFew, TraceSpends, steps_behind}
+use Rattle.generator_spec.specs.Steps.{SpendsByTrace, SpendsFew, TraceSpends}
 
 -- own: `told` where the command generates and answers 0; `bounded` however it ends
 pub record CommandSpends (generates : Type 0) (out out_after : SinkState) (result before after : ℕ) : Type 0 where
@@ -36,11 +34,13 @@ pub record OrderSpends (command : Command) (out out_after : SinkState) (result b
 
 -- ---- by the trace
 
+-- own: nothing is traced, unless what the command needs before its trace is there
+abbrev pub FitsOpening : Command → Config → Option Tree → ℕ → ℕ → Type 0
+FitsOpening command config holds before after =
+    IfSome holds (λ tree. (after ≡ before) ⊎ Opens tree config command)
+
 abbrev pub FitsTrace : Command → Config → Option Tree → ℕ → ℕ → Type 0
-FitsTrace command config holds before after =
-    IfSome holds
-    (λ tree. (asked : List Question) → asked_by_end (get tree) config ≡ Some asked
-    → after ≤ before + length asked + steps_behind (traced (get tree) config) command)
+FitsTrace command config holds before after = IfSome holds (λ tree. SpendsByTrace tree command config before after)
 
 abbrev pub FitsWords : List (List ℕ) → Option Tree → ℕ → ℕ → Type 0
 FitsWords words holds before after = IfSome holds (λ tree. TraceSpends words tree before after)

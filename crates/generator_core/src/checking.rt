@@ -156,7 +156,8 @@ fn checked_by<F: Folder, L: Ledger>(
         → ChecksBy command config.now (F.state folder.old) result (F.state folder.new) }
     ensures bounded { steps.new
         ≤ steps.old + (limit_number Modules + limit_number Requests) + further_steps strictly }
-    ensures by_trace { (command : Command) → AsksGrammar command strictly
+    ensures by_trace { IfSome (F.state folder.old).holds (λ tree. HoldsMap tree config.now parsed.now)
+        → (command : Command) → AsksGrammar command strictly
         → FitsTrace command config.now (F.state folder.old).holds steps.old steps.new }
 {
     match traced(alloc, folder, config, steps) {

@@ -7,6 +7,7 @@ ghost use Rattle.generator_spec.specs.Commands.{IsPage};
 ghost use Rattle.request_trace.specs.Tracing.{TakesSteps};
 ghost use Rattle.generation.specs.Generating.{AsksFurther, StepsToEnd};
 ghost use Rattle.config_spec.specs.declared.Command.{Command};
+ghost use Rattle.generator_core.specs.Spending.{FitsOpening};
 ghost use Rattle.generator_core.specs.Preparing.{AreMapFiles, FindsPage, IsPageFile, KeepsProject, Prepares};
 
 use crate::paths::{map_path, project_path};
@@ -102,6 +103,7 @@ pub fn prepare_page<F: Folder, L: Ledger>(
     ensures prepares { Prepares Inject config.now (F.state folder.old) result (F.state folder.new) }
     ensures steps { TakesSteps result (λ prepared. prepared.modules + prepared.requests) steps.old steps.new }
     ensures to_end { StepsToEnd config.now (F.state folder.old).holds steps.old steps.new }
+    ensures opened { FitsOpening Inject config.now (F.state folder.old).holds steps.old steps.new }
 {
     match page_of(alloc, folder, config) {
         Err(stop) => Err(stop),

@@ -36,6 +36,7 @@ use run_texts::{
     memory_line, not_plain_line, read_fault_line, status_of, vendored_line, write_fault_line,
 };
 use session_run::session;
+use session_watch::Watch;
 use shared_types::Steps;
 use std::alloc::Global;
 use std::sync::ledger::Ledger;
@@ -44,26 +45,29 @@ use tree_vendor::copy_out;
 
 /// Does all that the program does: reads the words and the project, generates from the folder, writes the map and the
 /// project or the page, or checks the map that is there, and says how it ended; or holds a session, whose lines come
-/// from the input. Answers the exit status.
-pub fn run<F: Folder, I: Source, O: Sink, L: Ledger>(
+/// from the input and whose modules the watch is shown. Answers the exit status.
+pub fn run<F: Folder, I: Source, O: Sink, W: Watch, L: Ledger>(
     alloc: Global,
     words: &[String],
     folder: &mut F,
     input: &mut I,
     out: &mut O,
+    watch: &mut W,
     steps: &mut Steps<L>,
 ) -> u8
     ensures ends { RunEnds (map string_bytes words.now) (F.state folder.old) (F.state folder.new) (I.state input.old)
-        (I.state input.new) (O.state out.old) (O.state out.new) result steps.old steps.new }
+        (I.state input.new) (O.state out.old) (O.state out.new) (W.seen watch.old) (W.seen watch.new) result
+        steps.old steps.new }
     ensures idle { IsIdle (map string_bytes words.now) → folder.new ≡ folder.old }
     ensures input { (IsSession (map string_bytes words.now) → ⊥) → input.new ≡ input.old }
+    ensures watch { (IsSession (map string_bytes words.now) → ⊥) → watch.new ≡ watch.old }
 {
     match order_of(alloc, words) {
         Ok(Wanted::Order(order)) => ordered(alloc, folder, order, out, steps),
         Ok(Wanted::Why { path }) => explain(alloc, folder, &path, out, steps),
         Ok(Wanted::Vendor { path }) => vendor(alloc, folder, &path, out, steps),
         Ok(Wanted::Measure { number }) => measure(alloc, number, out, steps),
-        Ok(Wanted::Session) => hold(alloc, folder, input, out, steps),
+        Ok(Wanted::Session) => hold(alloc, folder, input, out, watch, steps),
         Err(fault) => misworded(alloc, fault, out),
     }
 }
@@ -82,18 +86,19 @@ fn misworded<O: Sink>(alloc: Global, fault: WordsFault, out: &mut O) -> u8
 }
 
 // `session`: looks for the project, and opens a session on it.
-fn hold<F: Folder, I: Source, O: Sink, L: Ledger>(
+fn hold<F: Folder, I: Source, O: Sink, W: Watch, L: Ledger>(
     alloc: Global,
     folder: &mut F,
     input: &mut I,
     out: &mut O,
+    watch: &mut W,
     steps: &mut Steps<L>,
 ) -> u8
     ensures { SessionEnds (F.state folder.old) (F.state folder.new) (I.state input.old) (I.state input.new)
-        (O.state out.old) (O.state out.new) result steps.old steps.new }
+        (O.state out.old) (O.state out.new) (W.seen watch.old) (W.seen watch.new) result steps.old steps.new }
 {
     match configured(alloc, folder, Order::Refresh) {
-        Ok(config) => session(alloc, config, folder, input, out, steps),
+        Ok(config) => session(alloc, config, folder, input, out, watch, steps),
         Err(stop) => close(alloc, stop, out),
     }
 }

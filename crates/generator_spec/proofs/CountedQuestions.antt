@@ -1,13 +1,16 @@
--- A trace that isn't refused asks one question for each module and one for each request.
-use Rattle.std.proofs.Common.{◌≡◌, ◌≤◌, ◌+◌, ◌++◌, List, [], ◌∷◌, length, map, Option, Some, Result, Ok, refl, ap, ◌∙◌, subst, arith, length-append}
+-- A trace that isn't refused asks one question for each module and one for each request; of any, it is told what it asks.
+use Rattle.std.proofs.Common.{◌≡◌, ◌≤◌, ◌+◌, ◌++◌, ℕ, List, [], ◌∷◌, length, map, Option, Some, Result, Ok, Err, refl, sym, ap, ◌∙◌, subst, inl, arith, length-append}
+use Rattle.std.proofs.lemmas.Option.{same_Some}
 use Rattle.std.proofs.lemmas.List.{length-map}
 use Rattle.std.specs.FinMap.{get}
 use Rattle.asking_spec.proofs.EvaluationLemmas.{evaluated_comes, evaluated_listed}
 use Rattle.asking_spec.specs.Evaluation.{Ended, ends, stopped, Asked, evaluated, listed, unlisted}
 use Rattle.tree_spec.specs.LookAskings.{Sights}
 use Rattle.tree_spec.specs.LookLimits.{Trail}
+use Rattle.tree_spec.specs.Trees.{Tree}
 use Rattle.tree_spec.specs.declared.LimitName.{LimitName}
 use Rattle.trace_spec.specs.declared.TraceFault.{TraceFault}
+use Rattle.trace_spec.proofs.RefusalOrder.{refuses_in_order}
 use Rattle.trace_spec.proofs.Steps.{answers_always}
 use Rattle.trace_spec.proofs.Traces.{goes_in_order}
 use Rattle.trace_spec.specs.Checks.{Gathered, asking_at}
@@ -16,8 +19,9 @@ use Rattle.trace_spec.specs.Modules.{Config, Module}
 use Rattle.trace_spec.specs.Questions.{Question, always, answers}
 use Rattle.trace_spec.specs.Traces.{leads, result_of, specifiers, state_of, trace, traced}
 use Rattle.trace_spec.specs.Walking.{Referrer, the_page, a_module}
+use Rattle.config_spec.specs.declared.Command.{Command}
 use Rattle.generator_spec.specs.Laws.{StepsAreCounted}
-use Rattle.generator_spec.specs.Steps.{further_steps, steps_behind}
+use Rattle.generator_spec.specs.Steps.{SpendsByTrace, TraceSpends, further_steps, steps_behind}
 
 module _ (sights : Sights) (config : Config) where
   -- one visit asks what opens it, and then as often as it leads somewhere
@@ -86,11 +90,36 @@ module _ (sights : Sights) (config : Config) where
       as_counted all (evaluated (listed (answers sights)) none_asked (trace config)) refl
       (ap result_of (evaluated_listed (answers sights) none_asked (trace config)) ∙ traces) traces
 
+-- whatever a trace comes to, it is told what was asked until then
+pub record IsAskedTo (sights : Sights) (config : Config) : Type 0 where
+  pub asked : List Question
+  pub are : asked_by_end sights config ≡ Some asked
+
+pub always_asked : (sights : Sights) (config : Config) → IsAskedTo sights config
+always_asked sights config = of_result (traced sights config) refl
+  where
+    of_result : (found : Result Gathered TraceFault) → traced sights config ≡ found → IsAskedTo sights config
+    of_result (Ok all) traces = let each = asks_for_each sights config all traces in record { asked = each.asked; are = each.are }
+    of_result (Err fault) refuses = record { asked = _; are = (refuses_in_order sights config fault refuses).asked }
+
+-- no step is no more than any trace asks
+pub none_by_trace : (tree : Tree) (command : Command) (config : Config) (steps : ℕ) → SpendsByTrace tree command config steps steps
+none_by_trace tree command config steps =
+    let all = always_asked (get tree) config in
+    record { asked = all.asked; are = all.are; few = omega arith; opened = inl refl }
+
+pub none_by_words : (words : List (List ℕ)) (tree : Tree) (steps : ℕ) → TraceSpends words tree steps steps
+none_by_words words tree steps = record {
+  by_config = λ command config is. none_by_trace tree command config steps;
+  no_config = λ none no_measure. refl;
+}
+
 pub steps_are_counted : StepsAreCounted
 steps_are_counted words tree before after spends command config all is traces =
     let each = asks_for_each (get tree) config all traces in
+    let taken = spends.by_config command config is in
     let count = each.count in
-    let few : after ≤ before + length each.asked + further_steps all command =
-    subst (λ trace. after ≤ before + length each.asked + steps_behind trace command) traces
-    (spends command config each.asked is each.are) in
-    omega (arith, few, count)
+    let same = ap length (same_Some taken.asked each.asked (sym taken.are ∙ each.are)) in
+    let few : after ≤ before + length taken.asked + further_steps all command =
+    subst (λ trace. after ≤ before + length taken.asked + steps_behind trace command) traces taken.few in
+    omega (arith, few, count, same)

@@ -18,5 +18,6 @@ pub mod SomeOutcomes
 pub mod Endings
 pub mod ToldLines
 pub mod Meetings
+pub mod UntracedRuns
 pub mod KeptPromises
 pub mod CheckAnswers

@@ -328,10 +328,10 @@ module _ (words : List (List ℕ)) (tree : Tree) where
   measured_or_config : (number : ℕ) (command : Command) (config : Config) → Measures words number → IsConfigOf words tree command config → ⊥
   measured_or_config number command config asks is = (words_are_judged words).no_command number command asks (command_is words tree command (Ok config) is)
 
-  measured_or_no_config : (number : ℕ) (fault : ConfigFault) → Measures words number → RefusesConfig words tree fault → ⊥
+  pub measured_or_no_config : (number : ℕ) (fault : ConfigFault) → Measures words number → RefusesConfig words tree fault → ⊥
   measured_or_no_config number fault asks is = (words_are_judged words).no_command number is.command asks (command_is words tree is.command (Err fault) is.configures)
 
-  measured_or_refused : (number : ℕ) (fault : ConfigFault) → Measures words number → RefusesWords words fault → ⊥
+  pub measured_or_refused : (number : ℕ) (fault : ConfigFault) → Measures words number → RefusesWords words fault → ⊥
   measured_or_refused number fault asks is = (words_are_judged words).no_fault number fault asks is
 
   same_measure : (number other : ℕ) (why : Refusal) → Measures words number → Measures words other → RefusesMeasure other why → RefusesMeasure number why

@@ -106,7 +106,7 @@ module _ (tree : Tree) (config : Config) where
   refused_takes_none fault text page new (refuses_page.keeps_out other reason is_too keeps) is i =
       no_way_in text other page new reason (same_stored is_too.stands is.stands) keeps i
 
-  refused_or_opened : (fault : PageFault) → RefusesPage tree config fault → Opens tree config Inject → ⊥
+  pub refused_or_opened : (fault : PageFault) → RefusesPage tree config fault → Opens tree config Inject → ⊥
   refused_or_opened fault refused (opens.nothing _ is) = elim is [ ]
   refused_or_opened fault refused (opens.has_map _ checks map holds) = elim checks [ ]
   refused_or_opened fault refused (opens.no_base _ checks text is nameless) = elim checks [ ]
@@ -172,7 +172,7 @@ module _ (tree : Tree) (config : Config) where
       let same : None ≡ Some reads.base = sym nameless ∙ reads.named in
       absurd (cc)
 
-  map_refused_or_opened : (command : Command) (fault : MapFileFault) → IsChecking command → RefusesMapFile tree config fault → Opens tree config command → ⊥
+  pub map_refused_or_opened : (command : Command) (fault : MapFileFault) → IsChecking command → RefusesMapFile tree config fault → Opens tree config command → ⊥
   map_refused_or_opened command fault checking.plainly refused (opens.nothing _ is) = elim is [ ]
   map_refused_or_opened command fault checking.plainly refused (opens.has_map _ checks map holds) = no_map_text fault holds.text map refused holds.stands holds.reads
   map_refused_or_opened command fault checking.plainly refused (opens.no_base _ checks text is nameless) = no_base_text fault text refused is nameless

@@ -17,15 +17,16 @@ use Rattle.config_spec.specs.declared.Command.{Command}
 use Rattle.config_spec.specs.declared.Command.TheVariants.{CheckStrictly}
 use Rattle.config_spec.specs.Projects.{IsConfigOf}
 use Rattle.config_spec.specs.Words.{IsPlain, IsSession}
+use Rattle.generator_spec.specs.declared.Refusal.{Refusal}
 use Rattle.generator_spec.specs.CheckAnswers.{IsCheckOf, IsShallow, AnswersCheck}
 use Rattle.generator_spec.specs.Checking.{difference_lines, SaysOfModules, check_status}
 use Rattle.generator_spec.specs.Digests.{with_digests}
 use Rattle.generator_spec.specs.Explaining.{asked_by, referrer_of}
 use Rattle.generator_spec.specs.Generation.{Generates, IsTooWide, IsTooLarge, map_base}
-use Rattle.generator_spec.specs.Outcome.{Outcome}
+use Rattle.generator_spec.specs.Outcome.{Outcome, RefusesRun}
 use Rattle.generator_spec.specs.Serves.{Reachable}
 use Rattle.generator_spec.specs.Statuses.{done_status, memory_status}
-use Rattle.generator_spec.specs.Steps.{TraceSpends, further_steps}
+use Rattle.generator_spec.specs.Steps.{IsBeforeTrace, TraceSpends, further_steps}
 use Rattle.generator_spec.specs.Strictness.{ModulesAgree, AgreesAt}
 use Rattle.generator_spec.specs.Vendoring.{IsBlocked}
 use Rattle.generator_spec.specs.Ending.{EndsAs}
@@ -109,6 +110,12 @@ StepsAreCounted =
     → (command : Command) (config : Config) (all : Gathered) → IsConfigOf words tree command config
     → traced (get tree) config ≡ Ok all
     → after ≤ before + (length all.modules + length all.targets) + further_steps all command
+
+-- a run that is refused before its trace takes no step
+abbrev pub UntracedTakesNone : Type 0
+UntracedTakesNone =
+    (words : List (List ℕ)) (tree : Tree) (before after : ℕ) (why : Refusal) → TraceSpends words tree before after
+    → RefusesRun words tree why → IsBeforeTrace why → after ≡ before
 
 -- ---- outcomes
 

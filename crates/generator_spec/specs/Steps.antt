@@ -4,15 +4,19 @@
 --     MeasureSpends number out out_after before after      the same of the line of a measure
 --     further_steps all command                 how many steps come behind the trace
 --     steps_behind trace command                the same of a trace that may be refused
---     TraceSpends words tree before after       no more steps than the tree's trace asks questions until it ends, and
---                                               come behind it
+--     SpendsByTrace tree command config before after      no more steps than the tree's trace asks questions until it
+--                                               ends, and come behind it; and none, unless what the command needs before
+--                                               its trace is there
+--     TraceSpends words tree before after       so it is with the config that the words and the tree give; where they give
+--                                               none, no step is taken, unless the words ask for a measure
+--     IsBeforeTrace why                         the refusal comes before a trace: of a config, a page or a map's file
 --     RunSpends words holds out out_after result before after      no more steps than its line tells, where a command
 --                                               that writes a map is done, or a measure, and the output tells what it
 --                                               took; no more than the trace has, where the tree is told; never more
 --                                               than there may be modules and requests, and where each module is
 --                                               checked once more as many modules; and none where the words ask for no command
 --                                               and no measure
-use Rattle.std.specs.Prelude.{◌≡◌, ◌≤◌, ◌+◌, ◌++◌, ℕ, List, length, Option, Some, IfSome, Result, Ok, Err}
+use Rattle.std.specs.Prelude.{◌≡◌, ◌≤◌, ◌⊎◌, ◌+◌, ◌++◌, ℕ, List, length, Option, Some, IfSome, Result, Ok, Err}
 use Rattle.std.specs.Prelude.{option_map}
 use Rattle.std.specs.FinMap.{get}
 use Rattle.tree_spec.specs.declared.LimitName.TheVariants.{Modules, Requests}
@@ -29,9 +33,14 @@ use Rattle.config_spec.specs.declared.Command.{Command}
 use Rattle.config_spec.specs.declared.Command.TheVariants.{Link, Unlink, Refresh, Inject, Check, CheckStrictly, Why}
 use Rattle.config_spec.specs.declared.Command.TheVariants.{Vendor}
 use Rattle.config_spec.specs.declared.Command.TheVariants.{List as Lists}
+use Rattle.config_spec.specs.declared.ConfigFault.{ConfigFault}
 use Rattle.config_spec.specs.Projects.{IsConfigOf}
 use Rattle.config_spec.specs.Words.{IsCommandOf, Measures}
-use Rattle.generator_spec.specs.Commands.{SaysCounts}
+use Rattle.generator_spec.specs.declared.MapFileFault.{MapFileFault}
+use Rattle.generator_spec.specs.declared.PageFault.{PageFault}
+use Rattle.generator_spec.specs.declared.Refusal.{Refusal}
+use Rattle.generator_spec.specs.declared.Refusal.TheVariants.{Config as Configured, MapFile, Page}
+use Rattle.generator_spec.specs.Commands.{Opens, SaysCounts}
 use Rattle.generator_spec.specs.Lines.{counts_line, measure_line}
 use Rattle.generator_spec.specs.Statuses.{done_status}
 
@@ -69,12 +78,27 @@ steps_behind (Ok all) command = further_steps all command
 steps_behind (Err refusal) command = 0
 
 -- own: however the run ends, also by a refusal, a fault or want of memory. Of a trace that isn't refused there is one
--- question for each module and one for each request
-abbrev pub TraceSpends : List (List ℕ) → Tree → ℕ → ℕ → Type 0
-TraceSpends words tree before after =
-    (command : Command) (config : Config) (asked : List Question) → IsConfigOf words tree command config
-    → asked_by_end (get tree) config ≡ Some asked
-    → after ≤ before + length asked + steps_behind (traced (get tree) config) command
+-- question for each module and one for each request; of one that is refused, those up to the refusal
+pub record SpendsByTrace (tree : Tree) (command : Command) (config : Config) (before after : ℕ) : Type 0 where
+  pub asked : List Question
+  pub are : asked_by_end (get tree) config ≡ Some asked
+  pub few : after ≤ before + length asked + steps_behind (traced (get tree) config) command
+  pub opened : (after ≡ before) ⊎ Opens tree config command
+
+-- own: words that a tree gives no config have no trace; a measure needs none, since its tree is stated
+pub record TraceSpends (words : List (List ℕ)) (tree : Tree) (before after : ℕ) : Type 0 where
+  pub by_config :
+      (command : Command) (config : Config) → IsConfigOf words tree command config
+      → SpendsByTrace tree command config before after
+  pub no_config :
+      ((command : Command) (config : Config) → IsConfigOf words tree command config → ⊥)
+      → ((number : ℕ) → Measures words number → ⊥) → after ≡ before
+
+-- own: `inject` reads its page first, and `check` the map's file
+pub data IsBeforeTrace : Refusal → Type 0 where
+  of_config : (fault : ConfigFault) → IsBeforeTrace (Configured fault)
+  of_page : (fault : PageFault) → IsBeforeTrace (Page fault)
+  of_map_file : (fault : MapFileFault) → IsBeforeTrace (MapFile fault)
 
 -- own: `told` where a command that writes a map answers 0, `measured` where a measure does, `by_trace` where the tree
 -- is told, `bounded` however the run ends, but where it is asked to check strictly, `strictly` however it ends,

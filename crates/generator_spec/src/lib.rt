@@ -4,7 +4,7 @@
 
 ghost use Rattle.generator_spec.specs.Laws.{AgreesWhereReached, ChecksAnswer, ChecksAreExact};
 ghost use Rattle.generator_spec.specs.Laws.{OneGeneration, SomeGeneration, NothingRefused};
-ghost use Rattle.generator_spec.specs.Laws.{RequestsAreNumbered, StepsAreCounted};
+ghost use Rattle.generator_spec.specs.Laws.{RequestsAreNumbered, StepsAreCounted, UntracedTakesNone};
 ghost use Rattle.generator_spec.specs.Laws.{OneOutcome, SomeOutcome, EndsKeepPromises};
 ghost use Rattle.generator_spec.specs.WorkedExamples.{StrictExamples};
 
@@ -113,6 +113,11 @@ pub fn requests_are_numbered()
 /// checked one more for each.
 pub fn steps_are_counted()
     ensures { StepsAreCounted }
+{}
+
+/// A run that is refused for its config, its page or its map's file takes no step.
+pub fn untraced_takes_none()
+    ensures { UntracedTakesNone }
 {}
 
 /// A command over a tree has one outcome at most.

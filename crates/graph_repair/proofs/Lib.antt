@@ -7,3 +7,4 @@ mod FoundModules
 mod KeyedPlaces
 mod Repairing
 mod PlannedParts
+pub mod Neighbours

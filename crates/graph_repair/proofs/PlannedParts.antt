@@ -3,13 +3,16 @@
 --     ready_of                         the parts are ready
 --     nothing_found                    what is found in a new graph
 --     repairs_by                       a repair by a plan
+--     grown_few, less_few, begun_few   how many places there are then
 use Rattle.std.proofs.Common.{◌≡◌, ◌≢◌, ◌≤◌, ◌<◌, ◌+◌, ◌-◌, ◌%◌, ◌++◌, ℕ, zero, suc, List, [], ◌∷◌, length, map, reverse, replicate, take, Option, Some, None, Result, Ok, Err, IfOk, refl, sym, ap, ◌∙◌, subst, arith, inl, inr}
-use Rattle.std.specs.Prelude.{All, flat_map}
+use Rattle.std.specs.Prelude.{◌⊎◌, ◌*◌, All, IfSome, flat_map}
+use Rattle.tree_spec.specs.declared.LimitName.TheVariants.{Modules}
+use Rattle.tree_spec.specs.Limits.{limit_number}
 use Rattle.std.proofs.lemmas.List.{length-map, length-reverse, reverse-reverse}
 use Rattle.std.proofs.lemmas.List.Elements.{All-nil, All-weaker}
 use Rattle.slot_arena.specs.Slots.{Place, value_at, IsGiven, with_places}
 use Rattle.slot_arena.proofs.SlotLaws.{each_grows}
-use Rattle.slot_arena.specs.Counts.{spare, live, wanted}
+use Rattle.slot_arena.specs.Counts.{spare, live, wanted, GrewLess}
 use Rattle.slot_arena.specs.declared.slot.Slot.{Slot}
 use Rattle.module_graph.specs.declared.module.Module as vertex
 use Rattle.module_graph.specs.Graphs.{AreModules}
@@ -23,7 +26,7 @@ use Rattle.graph_repair.specs.declared.parts.Plan.{Plan}
 use Rattle.graph_repair.specs.Matching.{AreOnce, somes, missing, filled, IsAlike, AreKept, IsMatching}
 use Rattle.graph_repair.specs.Finding.{names, HasLike, IsFound}
 use Rattle.graph_repair.specs.Leads.{AreInTheirPlaces}
-use Rattle.graph_repair.specs.Repairs.{Repairs, ShowsSame, led_by, most_made}
+use Rattle.graph_repair.specs.Repairs.{Repairs, ShowsSame, led_by, most_made, most_at_once}
 use Rattle.graph_repair.specs.Plans.{AreAdded, HasRoom, IsReady, IsRepaired, IsBegun, IsPlanned, shown, base}
 use Rattle.module_graph.proofs.WellMade.{modules-grown}
 use native.Mathlib.Nat.{div-add-mod', mod-lt}
@@ -141,6 +144,11 @@ nothing_found g other slots keeps is =
 
 -- ---- a repair by a plan
 
+places_by : (old : Places) (begun : Option Places) (n : ℕ) → IfSome begun (λ g. length g ≤ most_at_once) → n ≡ length (base old begun)
+    → (n ≡ length old) ⊎ (n ≤ most_at_once)
+places_by old None n few is = inl is
+places_by old (Some g) n few is = inr (omega (arith, few, is))
+
 pub repairs_by : (made : ℕ) (old l : Links) (plan : Plan) (new : Links) → IsPlanned made old l plan → IsRepaired (base old.graph plan.begun) l plan.parts new
     → Repairs made old l new
 repairs_by made old l plan new planned repaired = record {
@@ -157,6 +165,7 @@ repairs_by made old l plan new planned repaired = record {
         slots = repaired.lasts.slots ∙ ap (λ ks. filled ks repaired.lasts.given) (planned.going none);
         never = subst (λ g. All (λ s. IsGiven g s → ⊥) repaired.lasts.given) same repaired.lasts.never;
       });
+  places = places_by old.graph plan.begun (length new.graph) planned.few repaired.made;
 }
 
 -- ---- a graph that shows the same
@@ -179,7 +188,7 @@ linked_moved g h slots same linked = record {
     set_moved (Some s) alive = (alive.0, same.values s ∙ alive.1)
 
 pub shows_itself : (l : Links) → ShowsSame l l
-shows_itself l = record { calls = begin; slots = refl; values = λ s. refl; as_many = refl }
+shows_itself l = record { calls = begin; slots = refl; values = λ s. refl; as_many = refl; no_fewer = omega arith }
 
 pub shows_grown : (g h : Places) (n : ℕ) (slots : List Slot) → h ≡ with_places g n → ShowsSame (shown g slots) (shown h slots)
 shows_grown g h n slots is =
@@ -189,7 +198,31 @@ shows_grown g h n slots is =
       slots = refl;
       values = λ s. ap (λ a. value_at a s) is ∙ law.everywhere s;
       as_many = ap live is ∙ law.as_live;
+      no_fewer = (let more = law.made in let same = ap length is in omega (arith, more, same));
     }
+
+wanted_few : (have n : ℕ) → wanted have n ≤ n + 63
+wanted_few have n =
+    let r : (n - have + 63) % 64 < 64 = mod-lt (n - have + 63) (omega arith) in
+    omega (arith, div-add-mod' (n - have + 63) 64, r)
+
+pub grown_few : (g h : Places) (n : ℕ) → n ≤ limit_number Modules → h ≡ with_places g (wanted (spare g) n) → length h ≤ length g + most_at_once
+grown_few g h n few is =
+    let made = (each_grows Vertex g (wanted (spare g) n)).made in
+    let same = ap length is in
+    let less = wanted_few (spare g) n in
+    omega (arith, made, same, less, few)
+
+pub less_few : (g h : Places) (n : ℕ) → n ≤ limit_number Modules → GrewLess g h n → length h ≤ length g + most_at_once
+less_few g h n few (k, lt, is) =
+    let made = (each_grows Vertex g (k * 64)).made in
+    let same = ap length is in
+    let less = wanted_few (spare g) n in
+    omega (arith, made, same, less, lt, few)
+
+pub begun_few : (empty h : Places) (n : ℕ) → empty ≡ [] → n ≤ limit_number Modules → h ≡ with_places empty (wanted (spare empty) n) → length h ≤ most_at_once
+begun_few empty h n none few is =
+    let nothing = ap length none in let all = grown_few empty h n few is in omega (arith, nothing, all)
 
 -- ---- a plan that keeps the graph, and one that begins another
 
@@ -203,6 +236,7 @@ planned_on made g h slots l left plan same many found alone none few ready =
       matching = matching_of h slots l left plan.parts.keeps.items there;
       renews = (λ is. few, λ below. none);
       going = λ is. refl;
+      few = subst (λ b. IfSome b (λ g. length g ≤ most_at_once)) (sym none) tt;
       ready = subst (λ b. IsReady (base h b) l plan.parts) (sym none) (ready there (many ∙ alone));
     }
 
@@ -213,6 +247,7 @@ planned_anew made h slots l left keeps plan found many begun = record {
   matching = matching_of h slots l left keeps found;
   renews = (λ is. absurd (let bad : None ≡ Some begun.graph = sym is ∙ begun.begun in cc), λ below. absurd (many below));
   going = λ is. absurd (let bad : None ≡ Some begun.graph = sym is ∙ begun.begun in cc);
+  few = subst (λ b. IfSome b (λ g. length g ≤ most_at_once)) (sym begun.begun) begun.few;
   ready = subst (λ b. IsReady (base h b) l plan.parts) (sym begun.begun) begun.ready;
 }
 

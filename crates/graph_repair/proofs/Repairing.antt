@@ -233,4 +233,5 @@ module _ (g g1 g2 : Places) (l : Links) (parts : Parts) (given slots : List Slot
             slots = called.filled_so;
             never = never_before;
           };
+          made = connects.made ∙ (called.adds.made ∙ called.removes.made);
         }

@@ -3,3 +3,4 @@ pub mod Finding
 pub mod Repairs
 pub mod Leads
 pub mod Plans
+pub mod Neighbours

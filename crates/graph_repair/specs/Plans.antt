@@ -12,7 +12,7 @@
 --     IsPlanned made old l plan      the plan is one for what is shown and this trace, made where there were so many
 --                                places: it begins a new graph where these and the added modules reach the most
 use Rattle.std.specs.Prelude.{◌≡◌, ⊤, ℕ, ◌+◌, ◌≤◌, ◌<◌, List, [], ◌∷◌, All, length, map, reverse, Option, Some, None}
-use Rattle.std.specs.Prelude.{◌↔◌, ◌≢◌, vec_len, vec_capacity}
+use Rattle.std.specs.Prelude.{◌↔◌, ◌≢◌, IfSome, vec_len, vec_capacity}
 use Rattle.slot_arena.specs.Slots.{Place, value_at}
 use Rattle.slot_arena.specs.Counts.{spare, live}
 use Rattle.slot_arena.specs.declared.slot.Slot.{Slot}
@@ -21,7 +21,7 @@ use Rattle.module_graph.specs.Modules.{IsModule, IsUntied}
 use Rattle.module_graph.specs.Many.{AreApart, requests_in}
 use Rattle.trace_graph.specs.Links.{Links, IsLinked, IsLive, module_of, source_of, modules_of, sources_of, all_targets}
 use Rattle.graph_repair.specs.Matching.{somes, missing, IsMatching}
-use Rattle.graph_repair.specs.Repairs.{IsCopyOf, Lasts, led_by, most_made}
+use Rattle.graph_repair.specs.Repairs.{IsCopyOf, Lasts, led_by, most_made, most_at_once}
 use Rattle.graph_repair.specs.declared.parts.Parts.{Parts}
 use Rattle.graph_repair.specs.declared.parts.Plan.{Plan}
 
@@ -89,6 +89,7 @@ pub record IsRepaired (g : List (Place vertex.Module)) (l : Links) (parts : Part
   pub copy : IsCopyOf l new
   pub linked : IsLinked new
   pub lasts : Lasts (shown g []) new parts.keeps.items
+  pub made : length new.graph ≡ length g
 
 -- the graph that is repaired: what is shown, or one that is begun
 abbrev pub base : List (Place vertex.Module) → Option (List (Place vertex.Module)) → List (Place vertex.Module)
@@ -99,6 +100,7 @@ base graph (Some begun) = begun
 pub record IsBegun (l : Links) (plan : Plan) : Type 0 where
   pub graph : List (Place vertex.Module)
   pub begun : plan.begun ≡ Some graph
+  pub few : length graph ≤ most_at_once
   pub ready : IsReady graph l plan.parts
 
 pub record IsPlanned (made : ℕ) (old l : Links) (plan : Plan) : Type 0 where
@@ -106,4 +108,5 @@ pub record IsPlanned (made : ℕ) (old l : Links) (plan : Plan) : Type 0 where
   pub matching : IsMatching old l keeps
   pub renews : (plan.begun ≡ None) ↔ (made + missing keeps < most_made)
   pub going : plan.begun ≡ None → plan.parts.keeps.items ≡ keeps
+  pub few : IfSome plan.begun (λ g. length g ≤ most_at_once)
   pub ready : IsReady (base old.graph plan.begun) l plan.parts

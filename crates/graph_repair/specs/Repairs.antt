@@ -5,10 +5,14 @@
 --                                never given
 --     Repairs made old l new     new is a copy of the trace, in which each target is set, and nothing else stands. It is
 --                                the old graph that goes on, unless the places that were made and the modules that
---                                aren't there yet reach the most
---     ShowsSame old new          the same slots are shown, each with its module; the graph differs by free places at most
+--                                aren't there yet reach the most. No place is made, except those of a new graph
+--     ShowsSame old new          the same slots are shown, each with its module; the graph differs by free places at most,
+--                                of which there may be more
 --     most_made                  the number of places at which a new graph is begun
-use Rattle.std.specs.Prelude.{◌≡◌, ℕ, ◌+◌, ◌-◌, ◌^◌, ◌<◌, List, All, length, map, Some}
+--     most_at_once               how many places a new graph has at most, and how many more a plan makes at most
+use Rattle.std.specs.Prelude.{◌≡◌, ◌⊎◌, ℕ, ◌+◌, ◌-◌, ◌^◌, ◌<◌, ◌≤◌, List, All, length, map, Some}
+use Rattle.tree_spec.specs.declared.LimitName.TheVariants.{Modules}
+use Rattle.tree_spec.specs.Limits.{limit_number}
 use Rattle.slot_arena.specs.Slots.{value_at, IsGiven}
 use Rattle.slot_arena.specs.Counts.{live}
 use Rattle.slot_arena.specs.declared.slot.Slot.{Slot}
@@ -41,9 +45,14 @@ pub record ShowsSame (old new : Links) : Type 0 where
   pub slots : new.slots ≡ old.slots
   pub values : (s : Slot) → value_at new.graph s ≡ value_at old.graph s
   pub as_many : live new.graph ≡ live old.graph
+  pub no_fewer : length old.graph ≤ length new.graph
 
 abbrev pub most_made : ℕ
 most_made = 2 ^ 32 - 64
+
+-- own: those of the modules of a trace, by whole chunks of 64
+abbrev pub most_at_once : ℕ
+most_at_once = limit_number Modules + 63
 
 pub record Repairs (made : ℕ) (old l new : Links) : Type 0 where
   pub copy : IsCopyOf l new
@@ -51,3 +60,4 @@ pub record Repairs (made : ℕ) (old l new : Links) : Type 0 where
   pub keeps : List (Option Slot)
   pub matching : IsMatching old l keeps
   pub lasts : made + missing keeps < most_made → Lasts old new keeps
+  pub places : (length new.graph ≡ length old.graph) ⊎ (length new.graph ≤ most_at_once)

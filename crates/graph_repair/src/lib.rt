@@ -2,6 +2,8 @@
 //! and adds what is new. A plan takes all the memory; to commit it takes none and can't fail.
 #![tactic(auto)]
 
+ghost use Rattle.graph_repair.specs.Neighbours.{SlotsLast};
+
 mod key;
 mod leads;
 mod likeness;
@@ -14,3 +16,8 @@ mod shown_graph;
 pub use module_graph::{ModuleView, Slot, View};
 pub use parts::Plan;
 pub use shown_graph::ShownGraph;
+
+/// Between two traces that are shown one after another, what is in both has one slot.
+pub fn slots_last()
+    ensures { SlotsLast }
+{}

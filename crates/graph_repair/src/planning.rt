@@ -1,4 +1,4 @@
-ghost use Rattle.std.specs.Prelude.{◌≡◌, ◌≤◌, IfOk, length, [], replicate, None};
+ghost use Rattle.std.specs.Prelude.{◌≡◌, ◌≤◌, ◌+◌, IfOk, length, [], replicate, None};
 ghost use Rattle.tree_spec.specs.declared.LimitName.TheVariants.{Modules};
 ghost use Rattle.tree_spec.specs.Limits.{limit_number};
 ghost use Rattle.slot_arena.specs.Counts.{live};
@@ -7,7 +7,7 @@ ghost use Rattle.std.specs.Prelude.{List};
 ghost use Rattle.module_graph.specs.Graphs.{AreModules};
 ghost use Rattle.graph_repair.specs.Finding.{IsFound};
 ghost use Rattle.graph_repair.specs.Plans.{IsBegun, IsPlanned, shown};
-ghost use Rattle.graph_repair.specs.Repairs.{ShowsSame};
+ghost use Rattle.graph_repair.specs.Repairs.{ShowsSame, most_at_once};
 
 use crate::matching::{Found, missing_in, somes_of};
 use crate::parts::{Parts, Plan, parts_of};
@@ -30,6 +30,7 @@ pub(crate) fn plan_of(
     requires modules { AreModules graph.old }
     requires each { length found.keeps.items ≡ length trace.now.slots }
     ensures same { (slots : List declared.Slot) → ShowsSame (shown graph.old slots) (shown graph.new slots) }
+    ensures few { length graph.new ≤ length graph.old + most_at_once }
     ensures planned { IfOk result (λ plan. (slots : List declared.Slot)
         → IsFound graph.old slots trace.now.graph trace.now.slots found.left.items found.keeps.items
         → live graph.old ≡ length slots

@@ -1,10 +1,10 @@
-ghost use Rattle.std.specs.Prelude.{◌≡◌, ◌≤◌, ℕ, All, IfOk, [], length};
+ghost use Rattle.std.specs.Prelude.{◌≡◌, ◌≤◌, ◌+◌, ℕ, All, IfOk, [], length};
 ghost use Rattle.tree_spec.specs.declared.LimitName.TheVariants.{Modules};
 ghost use Rattle.tree_spec.specs.Limits.{limit_number};
 ghost use Rattle.module_graph.specs.Graphs.{AreModules};
 ghost use Rattle.trace_graph.specs.Links.{Links, IsLinked, IsLive};
 ghost use Rattle.graph_repair.specs.Plans.{IsPlanned, shown};
-ghost use Rattle.graph_repair.specs.Repairs.{Repairs, ShowsSame};
+ghost use Rattle.graph_repair.specs.Repairs.{Repairs, ShowsSame, most_at_once};
 
 use crate::matching::find_kept;
 use crate::parts::Plan;
@@ -68,6 +68,7 @@ impl ShownGraph {
     pub fn plan(&mut self, alloc: Global, trace: &TraceGraph) -> Result<Plan, Memory>
         requires few { length trace.now.slots ≤ limit_number Modules }
         ensures same { ShowsSame self.old self.new }
+        ensures few { length self.new.graph ≤ length self.old.graph + most_at_once }
         ensures planned { IfOk result (IsPlanned (length self.old.graph) self.new trace.now) }
     {
         let found = find_kept(alloc, &self.graph.view(), &self.slots, trace)?;
@@ -77,7 +78,8 @@ impl ShownGraph {
     /// Shows the trace for which a plan was made. It takes no memory.
     pub fn commit(&mut self, plan: Plan)
         requires { (made : ℕ) × (l : Links) × IsPlanned made self.old l plan }
-        ensures { (made : ℕ) (l : Links) → IsPlanned made self.old l plan → Repairs made self.old l self.new }
+        ensures linked { IsLinked self.old }
+        ensures repairs { (made : ℕ) (l : Links) → IsPlanned made self.old l plan → Repairs made self.old l self.new }
     {
         let Plan { begun, parts } = plan;
         begin_anew(&mut self.graph, begun);

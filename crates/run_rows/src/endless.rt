@@ -1,7 +1,7 @@
 //! A folder in which each module asks for a further one, and what a run over it comes to.
 ghost use Rattle.std.specs.Prelude.{◌≡◌, ◌<◌};
 
-use generator_core::run;
+use generator_core::{Unwatched, run};
 use shared_types::{Bytes, Memory, Steps};
 use std::alloc::Global;
 use std::marker::Brand;
@@ -86,7 +86,15 @@ fn status_of<L: Ledger>(
 {
     let mut folder = Endless;
     let mut steps = Steps::<L>::start(blank);
-    run(alloc, words.as_slice(), &mut folder, input, out, &mut steps)
+    run(
+        alloc,
+        words.as_slice(),
+        &mut folder,
+        input,
+        out,
+        &mut Unwatched,
+        &mut steps,
+    )
 }
 
 /// How `link` ends over such a folder: its status, and what it says.

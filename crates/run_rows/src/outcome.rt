@@ -2,7 +2,7 @@
 ghost use Rattle.std.specs.Prelude.{◌≡◌, ◌<◌};
 
 use crate::outside::{Outcome, Outside};
-use generator_core::run;
+use generator_core::{Unwatched, run};
 use row_files::{Fails, RowFault, Run, Tree};
 use shared_types::Steps;
 use std::alloc::Global;
@@ -21,6 +21,7 @@ fn status_of<L: Ledger>(alloc: Global, words: &[String], outside: &mut Outside, 
         &mut outside.folder,
         &mut outside.input,
         &mut outside.out,
+        &mut Unwatched,
         &mut steps,
     )
 }

@@ -1,6 +1,6 @@
 -- Whatever a session is told, its map is that of a fresh generation behind the edits that were accepted; and what it
 -- says to the first bytes of an input is the front of what it says to it all.
-use Rattle.std.proofs.Common.{◌≡◌, ◌≤◌, ◌++◌, [], ◌∷◌, ℕ, List, length, Option, None, refl, sym, ap, ◌∙◌, subst, inl, inr, arith, ⊎_elim}
+use Rattle.std.proofs.Common.{◌≡◌, ◌≤◌, ◌++◌, [], ◌∷◌, ℕ, List, length, Option, None, refl, sym, ap, ◌∙◌, subst, arith, ⊎_elim}
 use Rattle.std.proofs.lemmas.List.{append_assoc, take-append-drop, length-take}
 use Rattle.std.proofs.lemmas.Bool.{cases_lt}
 use Rattle.std.specs.Prelude.{take, drop}
@@ -14,7 +14,7 @@ use Rattle.session_spec.specs.Laws.{all_changes, AreAccepted, accepts, leaves, B
 use Rattle.session_spec.specs.Openings.{OpensAt, opens, opening_line}
 use Rattle.session_spec.specs.Replies.{Replies, AllAccepted, none, then}
 use Rattle.session_spec.specs.SessionRuns.{RepliesTo as replies_to}
-use Rattle.session_spec.specs.SessionRuns.{SessionComesTo, RepliesTo, refused, replied}
+use Rattle.session_spec.specs.SessionRuns.{RepliesTo, refused, replied}
 use Rattle.session_spec.specs.SessionStates.{SessionState, IsCurrent}
 use Rattle.session_spec.specs.Talks.{Standing, begun, behind, Talks, edits_of, still, edits, collects, shows_it}
 use Rattle.session_spec.proofs.Replying.{accepted_or_left, accepted_join}

@@ -1,5 +1,5 @@
 -- The worked examples of steps.
-use Rattle.std.proofs.Common.{◌≡◌, ◌≢◌, ◌∷◌, [], Option, Some, None, Err, Result, refl, sym, ◌∙◌, subst, inr, ⊎_elim, arith}
+use Rattle.std.proofs.Common.{◌≡◌, ◌≢◌, ◌∷◌, [], Option, Some, None, Result, refl, sym, ◌∙◌, subst, inr, ⊎_elim, arith}
 use Rattle.std.specs.FinMap.{get}
 use Rattle.std.specs.Prelude.{codes, OnErr}
 use Rattle.std.specs.Str.{chars}
@@ -7,12 +7,13 @@ use Rattle.tree_spec.specs.declared.Entry.{Entry}
 use Rattle.tree_spec.specs.declared.Entry.TheVariants.{Stored}
 use Rattle.layout_spec.specs.WorkedExamples.{lines}
 use Rattle.session_spec.specs.declared.EditFault.{EditFault}
+use Rattle.session_spec.specs.Conversations.{map_reply}
 use Rattle.session_spec.specs.Edits.{Draft}
 use Rattle.session_spec.specs.SessionStates.{SessionState}
-use Rattle.session_spec.specs.SessionSteps.{begun, collects, shows_it, stands}
+use Rattle.session_spec.specs.SessionDoings.{begun, collects, shows_it, stands}
 use Rattle.session_spec.specs.Talks as talks
 use Rattle.session_spec.specs.Talks.{Standing, behind}
-use Rattle.session_spec.specs.WorkedExamples.{FrugalExamples, unlink_of, rest_of}
+use Rattle.session_spec.specs.WorkedExamples.{FrugalExamples, rest_of}
 use Rattle.session_spec.proofs.SessionExamples.{q_not_linked}
 
 other_files : (one other : Option Entry) → one ≡ Some (Stored []) → other ≡ Some (Stored (codes "1")) → one ≢ other
@@ -31,7 +32,7 @@ frugal_examples = record {
   same_tree = λ tree config question asked fresh. ⊎_elim (λ new. new asked) (λ changed. changed.other refl) fresh;
   other_bytes = λ tree later config is are. inr (record { path = codes "/m.mjs"; among = (0, omega arith, refl); other = other_files (get tree (codes "/m.mjs")) (get later (codes "/m.mjs")) is are });
   refused = λ state from to entries frugal. subst (λ (made : Result Draft EditFault). OnErr made (to ≡ from)) (q_not_linked state entries) frugal.refused;
-  no_edit = λ state from.
-      stands (behind (mapped state) state (Some []) (rest_of 1 (lines ("map" ∷ []))))
-      (collects (mapped state) from [] (rest_of 1 (lines ("map" ∷ []))) (shows_it (talked state) from (rest_of 1 (lines ("begin" ∷ "map" ∷ []))) begun refl) refl);
+  no_edit = λ state opened.
+      stands (behind (mapped state) state (Some []) (rest_of 1 (lines ("map" ∷ [])))) (map_reply state.map) opened
+      (collects (mapped state) (map_reply state.map) opened [] (rest_of 1 (lines ("map" ∷ []))) (shows_it (talked state) [] opened (rest_of 1 (lines ("begin" ∷ "map" ∷ []))) begun refl) refl);
 }

@@ -13,6 +13,8 @@ pub mod ShapedSessions
 pub mod FaultsOfEdits
 pub mod SessionLooking
 pub mod SessionSpending
+pub mod SessionDoing
+pub mod Renewals
 pub mod FreshMaps
 pub mod RefusalStatuses
 pub mod SessionsPromise

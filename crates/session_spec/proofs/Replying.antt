@@ -11,7 +11,7 @@ use Rattle.session_spec.specs.declared.Change.{Change}
 use Rattle.session_spec.specs.declared.EditFault.{EditFault}
 use Rattle.session_spec.specs.Edits.{Draft, edited, then_edited, changed}
 use Rattle.session_spec.specs.Laws.{SameReply, OneReply, RefusedLeaves, IsLeft, AcceptedOrLeft, AlwaysCurrent, EditsJoin, AcceptedJoin, all_changes}
-use Rattle.session_spec.specs.Replies.{IsRefused, by_change, by_generation, Follows, refused, accepted, accepted_line, IsAccepted}
+use Rattle.session_spec.specs.Replies.{IsRefused, by_change, by_generation, Follows, Replies, refused, accepted, accepted_line, IsAccepted}
 use Rattle.session_spec.specs.Replies.{nowhere, on, none, then}
 use Rattle.session_spec.specs.SessionStates.{SessionState, Counts, counts_of, draft_of, config_with, next_state, IsGenerated, IsCurrent}
 
@@ -55,6 +55,19 @@ accepted_by state _ edit _ _ e (accepted draft map counts generated) = inl (reco
 
 pub accepted_or_left : AcceptedOrLeft
 accepted_or_left state next edit line replies = accepted_by state next edit line (edited (draft_of state) edit) refl replies
+
+abbrev state_with : SessionState → Config → SessionState
+state_with state config = record { tree = state.tree; config = config; map = state.map; counts = state.counts }
+
+pub replies_accepted : (state next : SessionState) (edit : List Change) (line : List ℕ) → IsAccepted state edit next line → Replies state edit next line
+replies_accepted state next edit line is =
+    let project = sym is.same_project in
+    let same : next_state state (draft_of next) next.map next.counts ≡ next = λ i. state_with next (project i) in
+    let current = subst (λ (c : Config). IsGenerated next.tree c next.map next.counts) is.same_project is.current in
+    subst (λ (l : List ℕ). Replies state edit next l) (sym is.said)
+    (subst (λ (s : SessionState). Replies state edit s (accepted_line next.counts)) same
+    (subst (λ (made : Result Draft EditFault). Follows state made (next_state state (draft_of next) next.map next.counts) (accepted_line next.counts)) (sym is.made)
+    (accepted (draft_of next) next.map next.counts current)))
 
 pub next_current : (state next : SessionState) (line : List ℕ) (made : Result Draft EditFault) → IsCurrent state → Follows state made next line → IsCurrent next
 next_current state _ _ _ current (refused _ _ is) = current

@@ -1,5 +1,5 @@
 -- The edits to which an input comes.
-use Rattle.std.proofs.Common.{◌≡◌, ◌≤◌, ◌++◌, ℕ, List, length, refl, sym, ◌∙◌, subst}
+use Rattle.std.proofs.Common.{◌≡◌, ◌≤◌, ◌++◌, ℕ, List, length, sym, subst}
 use Rattle.std.proofs.lemmas.Bool.{cases_lt}
 use Rattle.std.specs.Prelude.{take}
 use Rattle.tree_spec.specs.declared.LimitName.TheVariants.{Session}
@@ -11,7 +11,7 @@ use Rattle.session_spec.specs.Laws.{TriedAreCurrent, LooksStay}
 use Rattle.session_spec.specs.Openings.{OpensAt, opens}
 use Rattle.session_spec.specs.SessionLooks.{IsTried, IsTriedLook, of_opening, of_edit}
 use Rattle.session_spec.specs.SessionStates.{SessionState, IsCurrent}
-use Rattle.session_spec.specs.Talks.{Standing, begun, turn_of}
+use Rattle.session_spec.specs.Talks.{Standing, begun}
 use Rattle.session_spec.proofs.Conversing.{at_on, taken_by}
 use Rattle.session_spec.proofs.LinesOn.{rest_on}
 use Rattle.session_spec.proofs.Talking.{with_more, talks_on, talks_stay_current, allowed_front}

@@ -6,7 +6,6 @@ use Rattle.tree_spec.specs.Trees.{Tree}
 use Rattle.tree_spec.specs.declared.LimitName.TheVariants.{Session}
 use Rattle.trace_spec.proofs.RefusalKinds.{refuses_by_kind}
 use Rattle.trace_spec.specs.Modules.{Config}
-use Rattle.config_spec.proofs.Configs.{configs_are_judged}
 use Rattle.config_spec.proofs.ConfigsFit.{configs_are_projects}
 use Rattle.config_spec.proofs.FaultsOfWords.{faults_are_of_words}
 use Rattle.config_spec.proofs.WordsJudged.{words_are_judged}
@@ -86,13 +85,16 @@ module _ (state : SessionState) where
   opened_with : (front : List ℕ) → IsOpenedText (opening_line state ++ front)
   opened_with front = record { counts = state.counts; replies = front; says = refl }
 
-  shaped_by : (out : List ℕ) (status : ℕ) → EndsAsLine out status → IsAnswerShaped status (opening_line state ++ out)
+  abbrev Shaped : ℕ → List ℕ → Type 0
+  Shaped status text = (replied : List ℕ) × IsAnswerShaped replied status text
+
+  shaped_by : (out : List ℕ) (status : ℕ) → EndsAsLine out status → Shaped status (opening_line state ++ out)
   shaped_by _ _ (at_end front) =
-      session.ended (opening_line state ++ front) (opened_with front) refl (sym (append_assoc (opening_line state) front end_reply))
+      (opening_line state ++ front, session.ended (opened_with front) refl (sym (append_assoc (opening_line state) front end_reply)))
   shaped_by _ _ (at_line front number) =
-      session.refused_line (opening_line state ++ front) number (opened_with front) refl (sym (append_assoc (opening_line state) front (bad_line number)))
+      (opening_line state ++ front, session.refused_line number (opened_with front) refl (sym (append_assoc (opening_line state) front (bad_line number))))
   shaped_by _ _ (at_limit front) =
-      session.too_long (opening_line state ++ front) (opened_with front) refl (sym (append_assoc (opening_line state) front (limit_line Session)))
+      (opening_line state ++ front, session.too_long (opened_with front) refl (sym (append_assoc (opening_line state) front (limit_line Session))))
 
 pub sessions_are_shaped : SessionsAreShaped
 sessions_are_shaped tree input _ _ (session.refused why is) = inr (record { why = why; can = can_refuse tree why is; ends = refl; says = refl })

@@ -1,7 +1,7 @@
 -- Where a session stands behind what it took, and how it ends there.
 use Rattle.std.proofs.Common.{◌≡◌, ◌≤◌, ◌++◌, ◌∷◌, [], ℕ, List, length, Bool, true, false, None, Some, refl, sym, ap, ◌∙◌, subst, arith}
 use Rattle.std.proofs.lemmas.List.{append-nil, append_assoc, take_all, take_at, length-append}
-use Rattle.std.specs.Prelude.{◌+◌, nat_lt, take}
+use Rattle.std.specs.Prelude.{nat_lt, take}
 use Rattle.std.proofs.lemmas.Bool.{lt-ltb, le-ltb}
 use Rattle.tree_spec.specs.declared.LimitName.TheVariants.{Session}
 use Rattle.tree_spec.specs.Limits.{limit_number}

@@ -25,8 +25,9 @@ IsFreshFor tree config later question =
 pub record TakesFresh (tree : Tree) (config : Config) (later : Tree) (other : Config) (from to : ℕ) : Type 0 where
   pub is_fresh : Question → Bool
   pub fresh : (question : Question) → is_fresh question ≡ true → IsFreshFor tree config later question
-  pub steps :
-      (asked : List Question) → asked_by_end (get later) other ≡ Some asked → to ≤ from + length (filter is_fresh asked)
+  pub asked : List Question
+  pub are : asked_by_end (get later) other ≡ Some asked
+  pub steps : to ≤ from + length (filter is_fresh asked)
 
 -- own: a change that can't be made takes none
 pub record IsFrugal (state : SessionState) (edit : List Change) (from to : ℕ) : Type 0 where

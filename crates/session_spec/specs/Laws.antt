@@ -1,6 +1,7 @@
 -- The laws of sessions. Each is the contract of a function of this crate.
 use Rattle.std.specs.FinMap.{get}
-use Rattle.std.specs.Prelude.{◌≡◌, ◌≤◌, ◌<◌, ◌⊎◌, ◌++◌, ◌∷◌, [], ⊤, ℕ, true, List, length, flat_map, Some, Ok, Err, All}
+use Rattle.std.specs.Prelude.{◌≡◌, ◌≤◌, ◌<◌, ◌⊎◌, ◌++◌, ◌∷◌, [], ⊤, ℕ, true, List, length, flat_map}
+use Rattle.std.specs.Prelude.{Bool, Option, Some, Ok, Err, All}
 use Rattle.tree_spec.specs.Limits.{limit_number}
 use Rattle.tree_spec.specs.Paths.{IsPath}
 use Rattle.tree_spec.specs.States.{FolderState, SourceState, SinkState}
@@ -16,12 +17,14 @@ use Rattle.session_spec.specs.Conversations.{Answers, ends, refuses, stops, end_
 use Rattle.session_spec.specs.EditFaults.{CanRefuseEdit}
 use Rattle.session_spec.specs.Edits.{Draft, can_put, put_file, edited, then_edited}
 use Rattle.session_spec.specs.Replies.{IsRefused, Replies, IsAccepted, Leads, AllAccepted}
+use Rattle.session_spec.specs.SessionDoings.{Done, Does, anew_of, IsOpening}
 use Rattle.session_spec.specs.SessionLooks.{IsTried, IsSessionLook}
 use Rattle.session_spec.specs.Openings.{OpensAt, CanOpen}
 use Rattle.session_spec.specs.SessionPromises.{SessionPromises}
 use Rattle.session_spec.specs.SessionRuns.{SessionComesTo, RepliesTo, RepliesToAll, IsStanding, SessionEnds}
 use Rattle.session_spec.specs.SessionRuns.{IsAnswerShaped, IsRefusalShaped}
 use Rattle.session_spec.specs.SessionStates.{SessionState, draft_of, config_with, IsCurrent}
+use Rattle.session_spec.specs.Showings.{Shown}
 use Rattle.session_spec.specs.Talks.{Standing, begun, turn_of, Talks, edits_of}
 use Rattle.session_spec.specs.TakenInput.{LeavesOpen, IsAwaited}
 
@@ -213,6 +216,25 @@ OneSession =
     (tree : Tree) (input out other : List ℕ) (status second : ℕ) → SessionComesTo tree input status out
     → SessionComesTo tree input second other → SameAnswer out other status second
 
+-- what a session does at the lines of an input goes with what it replies to them
+abbrev pub DoingsTalk : Type 0
+DoingsTalk =
+    (first : SessionState) (input : List ℕ) (opened : Done) (at : Standing) (text : List ℕ) (done : Done)
+    → Does first input opened at text done → Talks (begun first input) text at
+
+-- own: between two edits at which another graph is begun lie so many others, and so many come before the first
+pub record AreRare (some : ℕ) (anew : List Bool) : Type 0 where
+  pub first : (front back : List Bool) → anew ≡ front ++ true ∷ back → some ≤ length front
+  pub between :
+      (front middle back : List Bool) → anew ≡ front ++ true ∷ (middle ++ true ∷ back) → some ≤ length middle
+
+-- among any 200,000 edits in a row another graph is begun at one at most, and at none of the first 200,000
+abbrev pub RenewalsAreRare : Type 0
+RenewalsAreRare =
+    (first : SessionState) (input : List ℕ) (opened : Done) (at : Standing) (text : List ℕ) (done : Done)
+    → IsOpening first opened → (does : Does first input opened at text done)
+    → AreRare 200000 (anew_of first input opened at text done does)
+
 -- own: some text and status
 pub record HasSession (tree : Tree) (input : List ℕ) : Type 0 where
   pub out : List ℕ
@@ -228,7 +250,7 @@ SomeSession = (tree : Tree) (input : List ℕ) → HasSession tree input
 abbrev pub SessionsAreShaped : Type 0
 SessionsAreShaped =
     (tree : Tree) (input text : List ℕ) (status : ℕ) → SessionComesTo tree input status text
-    → IsAnswerShaped status text ⊎ IsRefusalShaped status text
+    → ((replied : List ℕ) × IsAnswerShaped replied status text) ⊎ IsRefusalShaped status text
 
 -- own: a session on the tree replies some text to each line that stands whole in these bytes, and waits for more
 pub record HasReplies (tree : Tree) (input : List ℕ) : Type 0 where
@@ -275,5 +297,6 @@ SessionsEnd =
 abbrev pub SessionsKeepPromises : Type 0
 SessionsKeepPromises =
     (before after : FolderState) (source later : SourceState) (out out_after : SinkState)
-    (result spent spent_after : ℕ) → SessionEnds before after source later out out_after result spent spent_after
+    (seen seen_after : Option (List (List Shown))) (result spent spent_after : ℕ)
+    → SessionEnds before after source later out out_after seen seen_after result spent spent_after
     → SessionPromises before after source later out out_after result

@@ -12,6 +12,7 @@ pub mod Openings
 pub mod SessionLooks
 pub mod Frugality
 pub mod SessionSteps
+pub mod SessionDoings
 pub mod SessionRuns
 pub mod SessionPromises
 pub mod Laws

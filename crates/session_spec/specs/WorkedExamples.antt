@@ -35,12 +35,13 @@ use Rattle.session_spec.specs.declared.Change.TheVariants.{Link, Unlink, Put, Dr
 use Rattle.session_spec.specs.declared.EditFault.{EditFault}
 use Rattle.session_spec.specs.declared.EditFault.TheVariants.{NotLinked, TooManyEntries, BadEdit}
 use Rattle.session_spec.specs.Conversations.{makes, holds, shows, ends, refuses, stops, turn_at, Conversation, Answers}
+use Rattle.session_spec.specs.Conversations.{map_reply}
 use Rattle.session_spec.specs.Edits.{Draft, changed, edited}
 use Rattle.session_spec.specs.Frugality.{IsFreshFor, IsFrugal}
+use Rattle.session_spec.specs.SessionDoings.{Done, EditsDo}
 use Rattle.session_spec.specs.SessionLines.{changes, begins, commits, shows_map, ends_session, Rest}
 use Rattle.session_spec.specs.SessionLines.{reads, malformed, unfinished, read_line}
 use Rattle.session_spec.specs.SessionStates.{Counts, SessionState}
-use Rattle.session_spec.specs.SessionSteps.{EditsSpend}
 
 abbrev pub put_of : ℕ → List ℕ
 put_of count = codes "put /lib " ++ (decimal count ++ (10 ∷ []))
@@ -250,6 +251,7 @@ pub record FrugalExamples : Type 0 where
   pub refused :
       (state : SessionState) (from to : ℕ) → state.config.entries ≡ texts ("./app.mjs" ∷ [])
       → IsFrugal state (unlink_of "q" ∷ []) from to → to ≡ from
-  -- nor do other lines
+  -- nor do other lines, which show nothing either
   pub no_edit :
-      (state : SessionState) (from : ℕ) → EditsSpend state (lines ("map" ∷ "begin" ∷ "map" ∷ [])) from from
+      (state : SessionState) (opened : Done)
+      → EditsDo state (lines ("map" ∷ "begin" ∷ "map" ∷ [])) opened (map_reply state.map) opened.spent opened.showings

@@ -9,7 +9,7 @@ ghost use Rattle.session_spec.specs.Laws.{OneAnswer, SomeAnswer, NothingBehindEn
 ghost use Rattle.session_spec.specs.Laws.{FrontReplies, TalksStayCurrent, OneSession, SomeSession, SessionsEnd};
 ghost use Rattle.session_spec.specs.Laws.{SessionsAreShaped, TriedAreCurrent, LooksStay, MapsAreFreshAfterEdits};
 ghost use Rattle.session_spec.specs.Laws.{RepliesAreFront, SessionsKeepPromises, OpenInputsWait, WaitingIsOpen};
-ghost use Rattle.session_spec.specs.Laws.{NoTakeBehindEnd};
+ghost use Rattle.session_spec.specs.Laws.{NoTakeBehindEnd, DoingsTalk, RenewalsAreRare};
 ghost use Rattle.session_spec.specs.TakenInput.{taken_at_once};
 ghost use Rattle.session_spec.specs.WorkedExamples.{LineExamples, TurnExamples, EntryExamples};
 ghost use Rattle.session_spec.specs.WorkedExamples.{EditExamples, AnswerExamples, FrugalExamples};
@@ -180,6 +180,16 @@ pub fn waiting_is_open()
 /// Once the bytes taken hold what ends a session, no take follows.
 pub fn no_take_behind_end()
     ensures { NoTakeBehindEnd }
+{}
+
+/// What a session does goes with what it replies.
+pub fn doings_talk()
+    ensures { DoingsTalk }
+{}
+
+/// A session seldom begins another graph.
+pub fn renewals_are_rare()
+    ensures { RenewalsAreRare }
 {}
 
 /// How a session ends, where it stands.

@@ -9,6 +9,8 @@ use Rattle.tree_spec.proofs.ToldStates.{if_some}
 use Rattle.session_spec.specs.declared.Change.{Change}
 use Rattle.session_spec.specs.Conversations.{makes}
 use Rattle.session_spec.specs.EditLooks.{IsEditLook}
+use Rattle.session_spec.specs.SessionDoings.{Done}
+use Rattle.session_spec.specs.Showings.{Shown}
 use Rattle.session_spec.specs.SessionLines.{Order}
 use Rattle.session_spec.specs.SessionLooks.{IsTriedLook}
 use Rattle.session_spec.specs.SessionStates.{SessionState}
@@ -58,7 +60,7 @@ module _ (first : Now) (taken : List ℕ) (asked : Option (List (List ℕ))) whe
 
 -- ---- an edit
 
-module _ (spent : ℕ) (state : SessionState) (taken text : List ℕ) (number : ℕ) (order : Order) (now : Now) (is : OrderedAt spent number order state taken text now) (edit : List Change) (does : turn_of is.at ≡ makes edit is.rest) where
+module _ (opened : Done) (state : SessionState) (taken text : List ℕ) (showings : List (List Shown)) (number : ℕ) (order : Order) (now : Now) (is : OrderedAt opened number order state taken text showings now) (edit : List Change) (does : turn_of is.at ≡ makes edit is.rest) where
   tried_here : (path : List ℕ) → IsEditLook is.at.state edit path → IsTriedLook state taken path
   tried_here path looks = record {
     state = is.at.state;

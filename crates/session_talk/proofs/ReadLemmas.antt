@@ -14,9 +14,10 @@ use Rattle.session_spec.specs.Conversations.{Answers, bad_line}
 use Rattle.session_spec.specs.SessionLines as lines
 use Rattle.session_spec.specs.SessionLines.{malformed, unfinished}
 use Rattle.session_spec.specs.SessionStates.{SessionState}
-use Rattle.session_spec.specs.SessionSteps.{EditsSpend, stands}
+use Rattle.session_spec.specs.SessionDoings.{EditsDo, stands}
 use Rattle.session_spec.specs.TakenInput.{IsFront, Takes, IsSpent, IsAwaited}
-use Rattle.session_spec.proofs.SessionSpending.{edits_on, spends_allowed, edits_spend_allowed}
+use Rattle.session_spec.proofs.SessionDoing.{edits_do_allowed}
+use Rattle.session_spec.proofs.SessionSpending.{edits_on, spends_allowed}
 use Rattle.session_spec.proofs.SomeAnswer.{read_shorter}
 use Rattle.session_spec.proofs.Standings.{answers_refused, answers_short, answers_long}
 use Rattle.session_spec.proofs.Talking.{with_more}
@@ -26,7 +27,7 @@ use Rattle.session_input.specs.declared.reading.Reading.TheVariants as reading
 use Rattle.session_input.specs.Readers.{Waiting, order_of, IsWithin, IsBeyond, IsRead, IsNeeded, ReadsNext}
 use Rattle.session_input.proofs.ReaderLemmas.{takes_then}
 use Rattle.session_talk.specs.Editors.{EditorState}
-use Rattle.session_talk.specs.Talking.{Now, now_at, StandsAt, OrderedAt, Looks, GoesOn, IsOrdered, RepliesFront, RepliesAll, Spends, at_line, at_limit, IsQuiet, Converses, TellsEnd}
+use Rattle.session_talk.specs.Talking.{Now, now_at, done_of, StandsAt, OrderedAt, Looks, GoesOn, IsOrdered, RepliesFront, RepliesAll, DoesFor, at_line, at_limit, IsQuiet, Converses, TellsEnd}
 use Rattle.session_talk.proofs.LookLemmas.{looks_with, looks_within}
 use Rattle.session_talk.proofs.TalkLemmas.{if_told, replies_with, replies_all, ends_memory, ends_take_fault, ends_outcome, answers_input, answers_taken, talks_with, turns_with, ordered_with, open_with, awaited_with}
 
@@ -44,7 +45,7 @@ module _ (first : Now) (editor : EditorState) (before : Waiting) (held : Option 
   here = now_at editor before held source out
 
   abbrev Standing : SessionState → Type 0
-  Standing state = StandsAt first.editor.spent state goes.taken goes.text here
+  Standing state = StandsAt (done_of first.editor []) state goes.taken goes.text goes.showings here
 
   abbrev all : List ℕ
   all = goes.taken ++ more
@@ -73,12 +74,14 @@ module _ (first : Now) (editor : EditorState) (before : Waiting) (held : Option 
   looks_all : Looks first (take (limit_number Session) all) editor.asked
   looks_all = looks_within first goes.taken editor.asked more few_taken goes.looks
 
-  spends_all : Spends first (take (limit_number Session) all) editor
-  spends_all = record {
+  done_all : DoesFor first (take (limit_number Session) all) goes.text editor
+  done_all = record {
     most = spends_allowed goes.taken more first.editor.spent editor.spent few_taken
         (record { edits = goes.edits; held = held; behind = before.unread; made = goes.made; few = goes.steps });
-    frugal = if_told first.editor.told Standing (λ state. EditsSpend state (take (limit_number Session) all) first.editor.spent editor.spent)
-        (λ state at. edits_spend_allowed state goes.taken first.editor.spent editor.spent few_taken (stands at.at at.spends) more) goes.stands;
+    showings = goes.showings;
+    sees = goes.sees;
+    does = if_told first.editor.told Standing (λ state. EditsDo state (take (limit_number Session) all) (done_of first.editor []) goes.text editor.spent goes.showings)
+        (λ state at. edits_do_allowed state goes.taken (done_of first.editor []) goes.text editor.spent goes.showings few_taken (stands at.at goes.text (done_of editor goes.showings) at.does) more) goes.stands;
   }
 
   few : (wanted : lines.Reading) → IsWithin before more wanted → length all ≤ limit_number Session
@@ -94,17 +97,17 @@ module _ (first : Now) (editor : EditorState) (before : Waiting) (held : Option 
 
   pub memory_read : (after : SinkState) (status : ℕ) → later.faults ≡ source.faults → Ends memory_status memory_line out after status → Converses first editor later after status
   memory_read after status e is =
-      ends_memory first editor later all takes_all awaited_all few_all looks_all spends_all out after goes.text goes.said goes.quiet_out status (quiet e)
+      ends_memory first editor later all takes_all awaited_all few_all looks_all out after goes.text goes.said goes.quiet_out done_all status (quiet e)
       (if_told first.editor.told Standing (λ state. RepliesFront state all goes.text) (λ state at. replies_with state goes.text at.at goes.taken more few_taken at.talks) goes.stands) is
 
   pub fault_read : (after : SinkState) (status : ℕ) → IsWithin before more unfinished → Rose source.faults later.faults → Ends read_fault_status read_fault_line out after status
       → Converses first editor later after status
   fault_read after status within rose is =
-      ends_take_fault first editor later all takes_all awaited_all few_all looks_all spends_all out after goes.text goes.said goes.quiet_out status (open_with goes.taken more before.unread goes.edits held goes.made (few unfinished within) within.is)
+      ends_take_fault first editor later all takes_all awaited_all few_all looks_all out after goes.text goes.said goes.quiet_out done_all status (open_with goes.taken more before.unread goes.edits held goes.made (few unfinished within) within.is)
       goes.quiet_editor (subst (λ (n : ℕ). Rose n later.faults) goes.quiet_source rose)
       (if_told first.editor.told Standing (λ state. RepliesAll state all goes.text)
-      (λ state at. replies_all state goes.text (with_more more at.at) all (few unfinished within) (talks_with first.editor.spent state goes.taken goes.text more here at)
-      (turns_with first.editor.spent state goes.taken goes.text more here at unfinished within.is)) goes.stands) is
+      (λ state at. replies_all state goes.text (with_more more at.at) all (few unfinished within) (talks_with (done_of first.editor []) state goes.taken goes.text more goes.showings here at)
+      (turns_with (done_of first.editor []) state goes.taken goes.text more goes.showings here at unfinished within.is)) goes.stands) is
 
   numbered : (state : SessionState) (at : Standing state) (taken : List ℕ) (status : ℕ) → Answers state taken (goes.text ++ bad_line at.at.number) status → Answers state taken (goes.text ++ bad_line before.number) status
   numbered state at taken status answers = subst (λ (n : ℕ). Answers state taken (goes.text ++ bad_line n) status) (sym at.number) answers
@@ -116,8 +119,8 @@ module _ (first : Now) (editor : EditorState) (before : Waiting) (held : Option 
       let line = bad_line before.number in
       let answers : (state : SessionState) → Standing state → (rest : List ℕ) → Answers state (all ++ rest) (goes.text ++ line) file_status =
       λ state at rest. numbered state at (all ++ rest) file_status
-      (answers_refused state all goes.text (with_more more at.at) (talks_with first.editor.spent state goes.taken goes.text more here at) rest (few malformed within) (turns_with first.editor.spent state goes.taken goes.text more here at malformed within.is)) in
-      ends_outcome first editor later all takes_all awaited_all few_all looks_all spends_all out after goes.text goes.said goes.quiet_out line file_status status (at_line before.number) (quiet e)
+      (answers_refused state all goes.text (with_more more at.at) (talks_with (done_of first.editor []) state goes.taken goes.text more goes.showings here at) rest (few malformed within) (turns_with (done_of first.editor []) state goes.taken goes.text more goes.showings here at malformed within.is)) in
+      ends_outcome first editor later all takes_all awaited_all few_all looks_all out after goes.text goes.said goes.quiet_out done_all line file_status status (at_line before.number) (quiet e)
       (if_told first.editor.told Standing (λ state. Answers state all (goes.text ++ line) file_status) (λ state at. answers_taken all (goes.text ++ line) file_status state (answers state at)) goes.stands)
       (if_told first.editor.told Standing (λ state. IfSome first.source.left (λ input. Answers state input (goes.text ++ line) file_status))
       (λ state at. answers_input first.source.left later.left all (goes.text ++ line) file_status state (answers state at) takes_all.came) goes.stands)
@@ -130,8 +133,8 @@ module _ (first : Now) (editor : EditorState) (before : Waiting) (held : Option 
       let line = bad_line before.number in
       let answers : (state : SessionState) → Standing state → Answers state all (goes.text ++ line) file_status =
       λ state at. numbered state at all file_status
-      (answers_short state all goes.text (with_more more at.at) (talks_with first.editor.spent state goes.taken goes.text more here at) (few unfinished within) (turns_with first.editor.spent state goes.taken goes.text more here at unfinished within.is)) in
-      ends_outcome first editor later all takes_all awaited_all few_all looks_all spends_all out after goes.text goes.said goes.quiet_out line file_status status (at_line before.number) (quiet e)
+      (answers_short state all goes.text (with_more more at.at) (talks_with (done_of first.editor []) state goes.taken goes.text more goes.showings here at) (few unfinished within) (turns_with (done_of first.editor []) state goes.taken goes.text more goes.showings here at unfinished within.is)) in
+      ends_outcome first editor later all takes_all awaited_all few_all looks_all out after goes.text goes.said goes.quiet_out done_all line file_status status (at_line before.number) (quiet e)
       (if_told first.editor.told Standing (λ state. Answers state all (goes.text ++ line) file_status) answers goes.stands)
       (if_told first.editor.told Standing (λ state. IfSome first.source.left (λ input. Answers state input (goes.text ++ line) file_status))
       (λ state at. answers_spent first.source.left later.left all (goes.text ++ line) file_status state (answers state at) takes_all.came spent) goes.stands)
@@ -149,9 +152,9 @@ module _ (first : Now) (editor : EditorState) (before : Waiting) (held : Option 
       let answers : (state : SessionState) → Standing state → (rest : List ℕ) → Answers state (all ++ rest) (goes.text ++ line) limit_status =
       λ state at rest.
       subst (λ (bytes : List ℕ). Answers state bytes (goes.text ++ line) limit_status) (sym (ap (λ (a : List ℕ). a ++ rest) whole ∙ append_assoc front (byte ∷ []) rest))
-      (answers_long state front goes.text (with_more beyond.front at.at) (talks_with first.editor.spent state goes.taken goes.text beyond.front here at) byte rest full
-      (turns_with first.editor.spent state goes.taken goes.text beyond.front here at unfinished beyond.is)) in
-      ends_outcome first editor later all takes_all awaited_all few_all looks_all spends_all out after goes.text goes.said goes.quiet_out line limit_status status at_limit (quiet e)
+      (answers_long state front goes.text (with_more beyond.front at.at) (talks_with (done_of first.editor []) state goes.taken goes.text beyond.front goes.showings here at) byte rest full
+      (turns_with (done_of first.editor []) state goes.taken goes.text beyond.front goes.showings here at unfinished beyond.is)) in
+      ends_outcome first editor later all takes_all awaited_all few_all looks_all out after goes.text goes.said goes.quiet_out done_all line limit_status status at_limit (quiet e)
       (if_told first.editor.told Standing (λ state. Answers state all (goes.text ++ line) limit_status) (λ state at. answers_taken all (goes.text ++ line) limit_status state (answers state at)) goes.stands)
       (if_told first.editor.told Standing (λ state. IfSome first.source.left (λ input. Answers state input (goes.text ++ line) limit_status))
       (λ state at. answers_input first.source.left later.left all (goes.text ++ line) limit_status state (answers state at) takes_all.came) goes.stands)
@@ -167,8 +170,10 @@ module _ (first : Now) (editor : EditorState) (before : Waiting) (held : Option 
     awaited = awaited_all;
     text = goes.text;
     said = goes.said;
-    stands = if_told first.editor.told Standing (λ state. OrderedAt first.editor.spent before.number (order_of order) state all goes.text (now_at editor after held later out))
-        (λ state at. ordered_with first.editor.spent state goes.taken goes.text more here at (order_of order) after later read.rest read.is read.unread read.number) goes.stands;
+    showings = goes.showings;
+    sees = goes.sees;
+    stands = if_told first.editor.told Standing (λ state. OrderedAt (done_of first.editor []) before.number (order_of order) state all goes.text goes.showings (now_at editor after held later out))
+        (λ state at. ordered_with (done_of first.editor []) state goes.taken goes.text more goes.showings here at (order_of order) after later read.rest read.is read.unread read.number) goes.stands;
     looks = looks_with first goes.taken editor.asked more goes.looks;
     edits = goes.edits;
     made = record { from = before.unread ++ more; made = edits_on goes.taken more goes.edits held before.unread goes.made; rest = read.rest; order_is = read.is; input = read.unread };

@@ -1,15 +1,18 @@
 -- Replies that are given in one piece and in two.
-use Rattle.std.proofs.Common.{◌≡◌, ◌++◌, ℕ, List, length, Option, Some, None, refl, sym, ap, ◌∙◌, subst, arith}
+use Rattle.std.proofs.Common.{◌≡◌, ◌++◌, [], ℕ, List, length, Option, Some, None, refl, sym, ap, ◌∙◌, subst, arith}
 use Rattle.std.proofs.lemmas.List.{append_assoc, take-append-le, take_min}
 use Rattle.std.specs.Fmt.{decimal}
-use Rattle.std.specs.Prelude.{codes, take, min, option_map}
+use Rattle.std.specs.Prelude.{codes, take, min, option_map, IfSome}
 use Rattle.tree_spec.specs.Counts.{Rose}
 use Rattle.tree_spec.specs.States.{SinkState}
 use Rattle.generator_spec.specs.Ending.{Ends, Gives}
 use Rattle.generator_spec.specs.Lines.{end_of_line, memory_line, read_fault_line}
 use Rattle.generator_spec.specs.Statuses.{memory_status, read_fault_status}
 use Rattle.session_spec.specs.declared.Change.{Change}
+use Rattle.tree_spec.proofs.ToldStates.{if_all}
 use Rattle.session_spec.specs.Conversations.{map_reply}
+use Rattle.session_spec.specs.SessionDoings.{SeesMore, MayShow, nothing}
+use Rattle.session_spec.specs.Showings.{Shown}
 use Rattle.session_talk.specs.Editors.{EditorState, Seen, EditsTold, EditsLook, EditSpends, Shows}
 use Rattle.session_talk.specs.Talking.{Gave, CutOff, GivesReply, Makes, replied, fails, wants, ShowsMap, shown, lost}
 use Rattle.session_talk.proofs.TalkLemmas.{give_then, gives_then}
@@ -27,15 +30,17 @@ said_line {status} {result} {out} {gone} e is = subst (λ (l : List ℕ). Ends s
 
 -- ---- edits
 
-module _ (before : EditorState) (edit : List Change) (out : SinkState) (after : EditorState) (out_after : SinkState) where
-  pub makes_replied : (line : List ℕ) (result : Option ℕ) → EditsTold before edit line after → EditsLook before edit after → EditSpends before edit after → GivesReply line out out_after result → Makes before edit out after out_after result
-  makes_replied line result edits looks steps gives = replied line edits looks steps gives
+module _ (before : EditorState) (edit : List Change) (out : SinkState) (after : EditorState) (out_after : SinkState) (showings : List (List Shown)) (sees : SeesMore before.seen showings after.seen) where
+  pub makes_replied : (line : List ℕ) (result : Option ℕ) → EditsTold before edit line showings after → EditsLook before edit after → EditSpends before edit after → GivesReply line out out_after result → Makes before edit out after out_after result
+  makes_replied line result edits looks steps gives = replied line showings sees edits looks steps gives
 
-  pub makes_fault : (status : ℕ) → Rose before.faults after.faults → EditsLook before edit after → EditSpends before edit after → Ends read_fault_status read_fault_line out out_after status → Makes before edit out after out_after (Some status)
-  makes_fault status rose looks steps is = fails status refl rose looks steps is
+  pub makes_fault : (status : ℕ) → Rose before.faults after.faults × (showings ≡ []) → EditsLook before edit after → EditSpends before edit after → Ends read_fault_status read_fault_line out out_after status → Makes before edit out after out_after (Some status)
+  makes_fault status failed looks steps is =
+      fails status showings sees (if_all before.told (λ state. subst (λ (more : List (List Shown)). MayShow state edit before.display more) (sym failed.1) nothing)) refl failed.0 looks steps is
 
-  pub makes_nothing : (status : ℕ) → after.faults ≡ before.faults → EditsLook before edit after → EditSpends before edit after → Ends memory_status memory_line out out_after status → Makes before edit out after out_after (Some status)
-  makes_nothing status quiet looks steps is = wants status refl quiet looks steps is
+  pub makes_nothing : (status : ℕ) → (after.faults ≡ before.faults) × IfSome before.told (λ state. MayShow state edit before.display showings) → EditsLook before edit after → EditSpends before edit after
+      → Ends memory_status memory_line out out_after status → Makes before edit out after out_after (Some status)
+  makes_nothing status lacks looks steps is = wants status showings sees lacks.1 refl lacks.0 looks steps is
 
 pub ruleset making = (makes_replied, makes_fault, makes_nothing)
 

@@ -14,22 +14,26 @@ use Rattle.generator_spec.specs.Statuses.{memory_status, read_fault_status}
 use Rattle.session_spec.specs.declared.Change.{Change}
 use Rattle.session_spec.specs.Conversations.{Answers, turn, makes, holds, shows, stops, map_reply}
 use Rattle.session_spec.specs.Frugality.{IsFrugal}
+use Rattle.session_spec.specs.SessionDoings as doings
+use Rattle.session_spec.specs.SessionDoings.{SeesMore, Done, Does}
 use Rattle.session_spec.specs.SessionLines as lines
 use Rattle.session_spec.specs.SessionLines.{Rest, reads, unfinished, read_line}
 use Rattle.session_spec.specs.SessionLooks.{IsTriedLook}
 use Rattle.session_spec.specs.SessionStates.{SessionState}
-use Rattle.session_spec.specs.SessionSteps.{MakesEdits, SpendsAt, most_steps}
+use Rattle.session_spec.specs.SessionSteps.{MakesEdits, most_steps}
+use Rattle.session_spec.specs.Showings.{Shown}
 use Rattle.session_spec.specs.SessionSteps as spending
 use Rattle.session_spec.specs.TakenInput.{IsFront, Takes, LeavesOpen, IsAwaited}
 use Rattle.session_spec.specs.Talks.{Standing, begun, behind, turn_of, Talks, still, edits, collects, shows_it}
-use Rattle.session_spec.proofs.SessionSpending.{few_by_none, edits_on, stands_on}
+use Rattle.session_spec.proofs.SessionDoing.{does_on, does_replies}
+use Rattle.session_spec.proofs.SessionSpending.{few_by_none, edits_on}
 use Rattle.session_spec.proofs.TakenFronts.{untaken, takes_behind}
 use Rattle.session_spec.proofs.Talking.{with_more, talks_on, talks_then, allowed_front}
 use Rattle.session_input.specs.Readers.{Waiting, IsWithin, IsNeeded}
 use Rattle.session_input.proofs.ReaderLemmas.{takes_none}
 use Rattle.session_talk.specs.Editors.{EditorState, AsksFor, IsReplied}
-use Rattle.session_talk.specs.Talking.{Now, now_at, StandsAt, OrderedAt, Looks, GoesOn}
-use Rattle.session_talk.specs.Talking.{RepliesFront, RepliesAll, Spends, IsLastLine, IsQuiet, Says, outcome, memory, look_fault, take_fault, said, cut_off, Converses}
+use Rattle.session_talk.specs.Talking.{Now, now_at, done_of, StandsAt, OrderedAt, Looks, GoesOn}
+use Rattle.session_talk.specs.Talking.{RepliesFront, RepliesAll, DoesFor, IsLastLine, IsQuiet, Says, outcome, memory, look_fault, take_fault, said, cut_off, Converses}
 use Rattle.session_talk.specs.Talking.{CutOff}
 use Rattle.session_talk.proofs.LookLemmas.{nothing_for}
 
@@ -42,6 +46,16 @@ if_told (Some state) P Q f p = f state p
 pub two_told : (told : Option SessionState) (P Q R : SessionState → Type 0) → ((state : SessionState) → P state → Q state → R state) → IfSome told P → IfSome told Q → IfSome told R
 two_told None P Q R f p q = tt
 two_told (Some state) P Q R f p q = f state p q
+
+-- ---- what is shown
+
+pub sees_then : (first now after : Option (List (List Shown))) (showings more : List (List Shown)) → SeesMore first showings now → SeesMore now more after → SeesMore first (showings ++ more) after
+sees_then None now after showings more e g = g ∙ ap (option_map (λ (earlier : List (List Shown)). earlier ++ more)) e
+sees_then (Some seen) now after showings more e g = g ∙ ap (option_map (λ (earlier : List (List Shown)). earlier ++ more)) e ∙ ap Some (append_assoc seen showings more)
+
+pub sees_nothing : (seen : Option (List (List Shown))) → SeesMore seen [] seen
+sees_nothing None = refl
+sees_nothing (Some seen) = ap Some (sym (append-nil seen))
 
 -- ---- what goes out
 
@@ -66,39 +80,43 @@ ends_then first now after text line status result e quiet (ending.output_fault i
 -- ---- ends
 
 module _ (first : Now) (editor : EditorState) (source : SourceState) (taken : List ℕ) (takes : Takes first.source taken source) (awaited : IsAwaited first.source taken source) (few : length taken ≤ limit_number Session + 1)
-    (looks : Looks first (take (limit_number Session) taken) editor.asked) (spends : Spends first (take (limit_number Session) taken) editor) where
+    (looks : Looks first (take (limit_number Session) taken) editor.asked) where
+  abbrev DoneWith : List ℕ → Type 0
+  DoneWith text = DoesFor first (take (limit_number Session) taken) text editor
+
   module _ (out after : SinkState) (text : List ℕ) (got : out.got ≡ option_map (λ front. front ++ text) first.out.got) (quiet_out : out.faults ≡ first.out.faults) where
-    ends_as : (line : List ℕ) (status result : ℕ) → Says first editor source taken status (text ++ line) → Ends status line out after result → Converses first editor source after result
-    ends_as line status result says is =
-        record { taken = taken; takes = takes; few = few; awaited = awaited; looks = looks; steps = spends; stops = said status (text ++ line) says (ends_then first.out out after text line status result got quiet_out is) }
+    ends_as : DoneWith text → (line : List ℕ) (status result : ℕ) → Says first editor source taken text status (text ++ line) → Ends status line out after result → Converses first editor source after result
+    ends_as done line status result says is =
+        record { taken = taken; takes = takes; few = few; awaited = awaited; looks = looks; replied = text; done = done; stops = said status (text ++ line) says (ends_then first.out out after text line status result got quiet_out is) }
 
-    pub ends_memory : (result : ℕ) → IsQuiet first editor source → IfSome first.editor.told (λ state. RepliesFront state taken text) → Ends memory_status memory_line out after result
+    pub ends_memory : DoneWith text → (result : ℕ) → IsQuiet first editor source → IfSome first.editor.told (λ state. RepliesFront state taken text) → Ends memory_status memory_line out after result
         → Converses first editor source after result
-    ends_memory result quiet front is = ends_as memory_line memory_status result (memory text quiet front refl refl) is
+    ends_memory done result quiet front is = ends_as done memory_line memory_status result (memory quiet front refl refl) is
 
-    pub ends_look_fault : (result : ℕ) → Rose first.editor.faults editor.faults → source.faults ≡ first.source.faults → IfSome first.editor.told (λ state. RepliesFront state taken text)
+    pub ends_look_fault : DoneWith text → (result : ℕ) → Rose first.editor.faults editor.faults → source.faults ≡ first.source.faults → IfSome first.editor.told (λ state. RepliesFront state taken text)
         → Ends read_fault_status read_fault_line out after result → Converses first editor source after result
-    ends_look_fault result rose quiet front is = ends_as read_fault_line read_fault_status result (look_fault text rose quiet front refl refl) is
+    ends_look_fault done result rose quiet front is = ends_as done read_fault_line read_fault_status result (look_fault rose quiet front refl refl) is
 
-    pub ends_take_fault : (result : ℕ) → LeavesOpen taken → editor.faults ≡ first.editor.faults → Rose first.source.faults source.faults → IfSome first.editor.told (λ state. RepliesAll state taken text)
+    pub ends_take_fault : DoneWith text → (result : ℕ) → LeavesOpen taken → editor.faults ≡ first.editor.faults → Rose first.source.faults source.faults → IfSome first.editor.told (λ state. RepliesAll state taken text)
         → Ends read_fault_status read_fault_line out after result → Converses first editor source after result
-    ends_take_fault result left_open quiet rose all is = ends_as read_fault_line read_fault_status result (take_fault text left_open quiet rose all refl refl) is
+    ends_take_fault done result left_open quiet rose all is = ends_as done read_fault_line read_fault_status result (take_fault left_open quiet rose all refl refl) is
 
-    pub ends_outcome : (line : List ℕ) (status result : ℕ) → IsLastLine status line → IsQuiet first editor source → IfSome first.editor.told (λ state. Answers state taken (text ++ line) status)
+    pub ends_outcome : DoneWith text → (line : List ℕ) (status result : ℕ) → IsLastLine status line → IsQuiet first editor source → IfSome first.editor.told (λ state. Answers state taken (text ++ line) status)
         → IfSome first.editor.told (λ state. IfSome first.source.left (λ input. Answers state input (text ++ line) status)) → Ends status line out after result → Converses first editor source after result
-    ends_outcome line status result last quiet here whole is =
-        ends_as line status result (outcome (record { front = text; last = line; whole = refl; is_last = last }) quiet here whole) is
+    ends_outcome done line status result last quiet here whole is =
+        ends_as done line status result (outcome (record { last = line; whole = refl; is_last = last }) quiet here whole) is
 
-    pub ends_cut_off : (reply : List ℕ) (result : ℕ) → IsQuiet first editor source → IfSome first.editor.told (λ state. RepliesFront state taken (text ++ reply)) → CutOff reply out after result
+    pub ends_cut_off : (reply : List ℕ) → DoneWith (text ++ reply) → (result : ℕ) → IsQuiet first editor source → IfSome first.editor.told (λ state. RepliesFront state taken (text ++ reply)) → CutOff reply out after result
         → Converses first editor source after result
-    ends_cut_off reply result quiet front cut = record {
+    ends_cut_off reply done result quiet front cut = record {
       taken = taken;
       takes = takes;
       few = few;
       awaited = awaited;
       looks = looks;
-      steps = spends;
-      stops = cut_off (text ++ reply) quiet front cut.is_status (gives_then first.out.got out.got after.got text reply got cut.gives) (subst (λ (n : ℕ). Rose n after.faults) quiet_out cut.rose);
+      replied = text ++ reply;
+      done = done;
+      stops = cut_off quiet front cut.is_status (gives_then first.out.got out.got after.got text reply got cut.gives) (subst (λ (n : ℕ). Rose n after.faults) quiet_out cut.rose);
     }
 
 -- ---- what was replied until then
@@ -140,7 +158,7 @@ answers_taken taken text status state answers = subst (λ (bytes : List ℕ). An
 
 -- ---- behind a line
 
-module _ (spent : ℕ) (state : SessionState) (taken text : List ℕ) (number : ℕ) (order : lines.Order) (now : Now) (is : OrderedAt spent number order state taken text now) where
+module _ (opened : Done) (state : SessionState) (taken text : List ℕ) (showings : List (List Shown)) (number : ℕ) (order : lines.Order) (now : Now) (is : OrderedAt opened number order state taken text showings now) where
   pub order_turn : turn_of is.at ≡ turn is.at.held (reads order is.rest)
   order_turn = ap (turn is.at.held) is.order_is
 
@@ -151,52 +169,51 @@ module _ (spent : ℕ) (state : SessionState) (taken text : List ℕ) (number : 
     abbrev after_line : Option (List Change) → Now
     after_line held = now_at editor now.waiting held now.source out
 
-    pub stands_made : (edit : List Change) (line : List ℕ) → turn_of is.at ≡ makes edit is.rest → IsReplied is.at.state edit line editor.told → IsFrugal is.at.state edit now.editor.spent editor.spent
-        → StandsAt spent state taken (text ++ line) (after_line None)
-    stands_made edit line does reply frugal =
+    pub stands_made : (edit : List Change) (line : List ℕ) (more : List (List Shown)) → turn_of is.at ≡ makes edit is.rest → IsReplied is.at.state edit line now.editor more editor → IsFrugal is.at.state edit now.editor.spent editor.spent
+        → StandsAt opened state taken (text ++ line) (showings ++ more) (after_line None)
+    stands_made edit line more does reply frugal =
         let later = behind is.at reply.next None is.rest in
-        let one = subst (λ (t : List ℕ). Talks is.at t later) (append-nil line) (edits is.at later edit is.rest reply.next line [] does reply.replies (still later)) in
+        let replies = does_replies is.at.state edit now.editor.display editor.display reply.next line more reply.does in
+        let one = subst (λ (t : List ℕ). Talks is.at t later) (append-nil line) (edits is.at later edit is.rest reply.next line [] does replies (still later)) in
         record {
           at = later;
           talks = talks_then (begun state taken) is.at later text line is.talks one;
-          spends = spending.edits is.at now.editor.spent editor.spent edit is.rest reply.next line is.spends does reply.replies frugal;
+          does = doings.edits is.at text (done_of now.editor showings) edit is.rest reply.next line editor.spent editor.display more is.does does frugal reply.does;
           told = reply.is_told;
           number = is.number_is;
           held = refl;
           input = is.input;
         }
 
-    pub stands_shown : (map : List ℕ) → turn_of is.at ≡ shows is.rest → map ≡ is.at.state.map → editor.told ≡ now.editor.told → editor.spent ≡ now.editor.spent
-        → StandsAt spent state taken (text ++ map_reply map) (after_line None)
-    stands_shown map does same told rested =
-        let later = behind is.at is.at.state None is.rest in
-        let line = map_reply is.at.state.map in
-        let one = subst (λ (t : List ℕ). Talks is.at t later) (append-nil line) (shows_it is.at later is.rest [] does (still later)) in
-        let talks = talks_then (begun state taken) is.at later text line is.talks one in
-        record {
-          at = later;
-          talks = subst (λ (m : List ℕ). Talks (begun state taken) (text ++ map_reply m) later) (sym same) talks;
-          spends = subst (λ (n : ℕ). SpendsAt state taken spent later n) (sym rested) (spending.shows_it is.at now.editor.spent is.rest is.spends does);
-          told = told ∙ is.told;
-          number = is.number_is;
-          held = refl;
-          input = is.input;
-        }
+  pub stands_shown : (out : SinkState) (map : List ℕ) → turn_of is.at ≡ shows is.rest → map ≡ is.at.state.map → StandsAt opened state taken (text ++ map_reply map) showings (now_at now.editor now.waiting None now.source out)
+  stands_shown out map does same =
+      let later = behind is.at is.at.state None is.rest in
+      let line = map_reply is.at.state.map in
+      let one = subst (λ (t : List ℕ). Talks is.at t later) (append-nil line) (shows_it is.at later is.rest [] does (still later)) in
+      let talks = talks_then (begun state taken) is.at later text line is.talks one in
+      record {
+        at = later;
+        talks = subst (λ (m : List ℕ). Talks (begun state taken) (text ++ map_reply m) later) (sym same) talks;
+        does = subst (λ (m : List ℕ). Does state taken opened later (text ++ map_reply m) (done_of now.editor showings)) (sym same) (doings.shows_it is.at text (done_of now.editor showings) is.rest is.does does);
+        told = is.told;
+        number = is.number_is;
+        held = refl;
+        input = is.input;
+      }
 
-    pub stands_collected : (held : List Change) → turn_of is.at ≡ holds held is.rest → editor.told ≡ now.editor.told → editor.spent ≡ now.editor.spent
-        → StandsAt spent state taken text (after_line (Some held))
-    stands_collected held does told rested =
-        let later = behind is.at is.at.state (Some held) is.rest in
-        let one = collects is.at later held is.rest [] does (still later) in
-        record {
-          at = later;
-          talks = subst (λ (t : List ℕ). Talks (begun state taken) t later) (append-nil text) (talks_then (begun state taken) is.at later text [] is.talks one);
-          spends = subst (λ (n : ℕ). SpendsAt state taken spent later n) (sym rested) (spending.collects is.at now.editor.spent held is.rest is.spends does);
-          told = told ∙ is.told;
-          number = is.number_is;
-          held = refl;
-          input = is.input;
-        }
+  pub stands_collected : (out : SinkState) (held : List Change) → turn_of is.at ≡ holds held is.rest → StandsAt opened state taken text showings (now_at now.editor now.waiting (Some held) now.source out)
+  stands_collected out held does =
+      let later = behind is.at is.at.state (Some held) is.rest in
+      let one = collects is.at later held is.rest [] does (still later) in
+      record {
+        at = later;
+        talks = subst (λ (t : List ℕ). Talks (begun state taken) t later) (append-nil text) (talks_then (begun state taken) is.at later text [] is.talks one);
+        does = doings.collects is.at text (done_of now.editor showings) held is.rest is.does does;
+        told = is.told;
+        number = is.number_is;
+        held = refl;
+        input = is.input;
+      }
 
 -- ---- a line is read
 
@@ -212,7 +229,7 @@ open_with taken more unread count held made few needed = record {
   waits = ap (turn held) needed;
 }
 
-module _ (spent : ℕ) (state : SessionState) (front text more : List ℕ) (now : Now) (stands : StandsAt spent state front text now) where
+module _ (opened : Done) (state : SessionState) (front text more : List ℕ) (showings : List (List Shown)) (now : Now) (stands : StandsAt opened state front text showings now) where
   pub standing_with : Standing
   standing_with = with_more more stands.at
 
@@ -227,11 +244,11 @@ module _ (spent : ℕ) (state : SessionState) (front text more : List ℕ) (now 
 
   pub ordered_with : (order : lines.Order) (waiting : Waiting) (source : SourceState) (rest : Rest) → read_line (now.waiting.unread ++ more) ≡ reads order rest → waiting.unread ≡ rest.behind
       → waiting.number ≡ now.waiting.number + rest.lines
-      → OrderedAt spent now.waiting.number order state (front ++ more) text (now_at now.editor waiting now.held source now.out)
+      → OrderedAt opened now.waiting.number order state (front ++ more) text showings (now_at now.editor waiting now.held source now.out)
   ordered_with order waiting source rest e unread number = record {
     at = with_more more stands.at;
     talks = talks_with;
-    spends = stands_on state front more spent stands.at now.editor.spent stands.spends;
+    does = does_on state front more opened stands.at text (done_of now.editor showings) stands.does;
     told = stands.told;
     line = stands.number;
     held = stands.held;
@@ -256,11 +273,11 @@ nothing_said : (got : Option (List ℕ)) → got ≡ option_map (λ front. front
 nothing_said None = refl
 nothing_said (Some got) = ap Some (sym (append-nil got))
 
-stands_begun : (told : Option SessionState) (faults : ℕ) (asked : Option (List (List ℕ))) (spent : ℕ) (waiting : Waiting) (source : SourceState) (out : SinkState) → waiting.unread ≡ [] → waiting.number ≡ 1
-    → IfSome told (λ state. StandsAt spent state [] [] (now_at (record { told = told; faults = faults; asked = asked; spent = spent }) waiting None source out))
-stands_begun None faults asked spent waiting source out unread number = tt
-stands_begun (Some state) faults asked spent waiting source out unread number =
-    record { at = begun state []; talks = still (begun state []); spends = spending.begun; told = refl; number = number; held = refl; input = unread }
+stands_begun : (told : Option SessionState) (editor : EditorState) (waiting : Waiting) (source : SourceState) (out : SinkState) → editor.told ≡ told → waiting.unread ≡ [] → waiting.number ≡ 1
+    → IfSome told (λ state. StandsAt (done_of editor []) state [] [] [] (now_at editor waiting None source out))
+stands_begun None editor waiting source out is unread number = tt
+stands_begun (Some state) editor waiting source out is unread number =
+    record { at = begun state []; talks = still (begun state []); does = doings.begun; told = is; number = number; held = refl; input = unread }
 
 pub nothing_awaited : (source : SourceState) → IsAwaited source [] source
 nothing_awaited source = untaken LeavesOpen source
@@ -279,7 +296,9 @@ goes_begun editor waiting source out unread number room = record {
   awaited = nothing_awaited source;
   text = [];
   said = nothing_said out.got;
-  stands = stands_begun editor.told editor.faults editor.asked editor.spent waiting source out unread number;
+  showings = [];
+  sees = sees_nothing editor.seen;
+  stands = stands_begun editor.told editor waiting source out refl unread number;
   looks = none_looked editor.told editor.asked;
   edits = 0;
   made = subst (λ (bytes : List ℕ). MakesEdits [] 0 None bytes) (sym unread) spending.begun;

@@ -15,6 +15,6 @@ pub trait Watch {
     /// Shows the modules under these slots of a graph, in trace order.
     fn shown(&mut self, alloc: Global, slots: &[Slot], view: View<'_>) -> Result<(), Memory>
         requires live { All (IsLive view) slots.now }
-        ensures sees { OnOk result (Grows (seen self.old) (seen self.new) (showing_of view slots.now)) }
+        ensures sees { OnOk result (Grows (seen self.old) (seen self.new) (showing_of view.entry slots.now)) }
         ensures stays { OnErr result (seen self.new ≡ seen self.old) };
 }

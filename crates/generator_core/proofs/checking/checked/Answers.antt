@@ -40,5 +40,7 @@ returns-clause-by_trace g c = λ command asking.
     let before = g.F.Folder.state c.args.folder.now in
     let middle = g.F.Folder.state c.map_text.new.folder in
     let found = subst (λ r. FindsMapText before r middle) c.in-Ok.is c.map_text.ensures in
+    let reads = (subst (λ r. FindsMap c.args.config.now c.in-Ok.text r) c.in-Ok-map_of.is (subst (λ t. FindsMap c.args.config.now t c.map_of.result) c.as_slice.ensures c.map_of.ensures)).reads in
     fits_earlier c.args.config.now before middle c.args.steps.now c.checked_by.new.steps command command refl
-    found.found.looks.tree (c.checked_by.ensures.by_trace command asking)
+    found.found.looks.tree
+    (c.checked_by.ensures.by_trace (text_still c.args.config.now before middle c.in-Ok.text c.in-Ok-map_of.parsed found reads) command asking)

@@ -1,9 +1,10 @@
 use Rattle.std.proofs.Common.{sym, ◌∙◌, subst, IfSome}
 use Rattle.page_spec.specs.Injection.{KeepsMapsOut, TakesMaps}
+use Rattle.config_spec.specs.declared.Command.TheVariants.{Inject}
 use Rattle.generator_spec.specs.Commands.{IsPage}
 use Rattle.generator_core.specs.Preparing.{FindsPage}
 use Rattle.generator_core.proofs.Preparings.{page_refused, page_keeps_out, page_prepared}
-use Rattle.generator_core.proofs.StepsByTrace.{held_earlier, unspent_to_end}
+use Rattle.generator_core.proofs.StepsByTrace.{held_earlier, page_opening, unspent_opening, unspent_to_end}
 use Rattle.generator_core.proofs.prepared.prepare_page.Goals as goal
 
 pub returns-in-Err-clause-prepares : goal.returns-in-Err-clause-prepares
@@ -41,3 +42,17 @@ returns-clause-to_end g c =
     let middle = g.F.Folder.state c.page_of.new.folder in
     let found = subst (λ r. FindsPage c.args.config.now before r middle) c.in-Ok.is c.page_of.ensures in
     held_earlier c.args.config.now before middle c.args.steps.now c.prepare_at.new.steps found.found.looks.tree c.prepare_at.ensures.to_end
+
+pub returns-in-Err-clause-opened : goal.returns-in-Err-clause-opened
+returns-in-Err-clause-opened g c = unspent_opening Inject c.args.config.now (g.F.Folder.state c.args.folder.now).holds c.args.steps.now
+
+pub returns-in-Err-site_of-clause-opened : goal.returns-in-Err-site_of-clause-opened
+returns-in-Err-site_of-clause-opened g c = unspent_opening Inject c.args.config.now (g.F.Folder.state c.args.folder.now).holds c.args.steps.now
+
+pub returns-clause-opened : goal.returns-clause-opened
+returns-clause-opened g c =
+    let before = g.F.Folder.state c.args.folder.now in
+    let middle = g.F.Folder.state c.page_of.new.folder in
+    let found = subst (λ r. FindsPage c.args.config.now before r middle) c.in-Ok.is c.page_of.ensures in
+    page_opening c.in-Ok.page c.args.config.now before.holds c.args.steps.now c.prepare_at.new.steps
+    (subst TakesMaps (c.as_slice.ensures) c.in-Ok-site_of.ensures.takes) found.found.is_page

@@ -151,6 +151,11 @@ returns-in-Ok-Session-clause-input g c =
     let words = map string_bytes c.args.words.now in
     λ none. absurd (none (subst (IsWanted words) c.in-Ok-Session.field-0-is c.in-Ok-Session.ensures))
 
+pub returns-in-Ok-Session-clause-watch : goal.returns-in-Ok-Session-clause-watch
+returns-in-Ok-Session-clause-watch g c =
+    let words = map string_bytes c.args.words.now in
+    λ none. absurd (none (subst (IsWanted words) c.in-Ok-Session.field-0-is c.in-Ok-Session.ensures))
+
 pub returns-in-Err-clause-ends : goal.returns-in-Err-clause-ends
 returns-in-Err-clause-ends g c =
     let words = map string_bytes c.args.words.now in
@@ -168,5 +173,5 @@ returns-in-Err-clause-ends g c =
           unspent = λ none no_measure. refl;
         };
       };
-      session = unread_ends words folder (g.I.Source.state c.args.input.now) _ _ _ _ c.in-Err.fault c.in-Err.ensures c.misworded.ensures.tells c.misworded.ensures.later;
+      session = unread_ends words folder (g.I.Source.state c.args.input.now) _ _ _ _ _ c.in-Err.fault c.in-Err.ensures c.misworded.ensures.tells c.misworded.ensures.later;
     }

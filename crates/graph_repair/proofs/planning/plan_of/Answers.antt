@@ -1,4 +1,6 @@
 use Rattle.std.proofs.Common.{◌≡◌, ◌≤◌, List, length, None, ap, ◌∙◌, refl, arith}
+use Rattle.tree_spec.specs.declared.LimitName.TheVariants.{Modules}
+use Rattle.tree_spec.specs.Limits.{limit_number}
 use Rattle.slot_arena.specs.Counts.{live}
 use Rattle.slot_arena.specs.declared.slot.Slot.{Slot}
 use Rattle.graph_repair.specs.declared.parts.Plan.{Plan}
@@ -6,8 +8,9 @@ use Rattle.graph_repair.specs.Finding.{IsFound}
 use Rattle.graph_repair.specs.Matching.{somes, missing}
 use Rattle.graph_repair.specs.Plans.{IsBegun, IsPlanned, shown}
 use Rattle.graph_repair.proofs.Filling.{missing_few}
-use Rattle.graph_repair.proofs.PlannedParts.{going_on, planned_anew, shows_grown, shows_itself, if_ok}
+use Rattle.graph_repair.proofs.PlannedParts.{going_on, planned_anew, grown_few, less_few, shows_grown, shows_itself, if_ok}
 use Rattle.graph_repair.proofs.planning.plan_of.Goals as goal
+use Rattle.graph_repair.proofs.planning.plan_of.Goals.{After-missing_in-added}
 
 pub missing_in-added-requires : goal.missing_in-added-requires
 missing_in-added-requires c =
@@ -62,3 +65,31 @@ returns-clause-planned c = λ slots found alone.
     (record { begun = None; parts = c.in_ok-parts_of.field-0 }) c.in_ok-reserve.ensures.ok (c.missing_in-added.ensures ∙ ap missing c.deref.ensures.value)
     (let few = c.if-made-added-ge-MOST_MADE.false in let made = c.made.ensures in omega (arith, few, made)) refl c.in_ok-parts_of.ensures.keeps c.in_ok-parts_of.ensures.gone
     (c.in_ok-gone.ensures ∙ ap somes c.deref-2.ensures.value) c.requires.modules c.in_ok-parts_of.ensures.modules c.in_ok-parts_of.ensures.added c.in_ok-parts_of.ensures.leads c.in_ok-parts_of.ensures.room found alone
+
+few_missing : (c : After-missing_in-added) → c.missing_in-added.result ≤ limit_number Modules
+few_missing c =
+    let same = ap length c.deref.ensures.value in
+    let each = c.requires.each in
+    let few = c.requires.few in
+    let count = c.missing_in-added.ensures in
+    let most = missing_few c.deref.result.now in
+    omega (arith, same, each, few, count, most)
+
+pub returns-then-made-added-ge-MOST_MADE-clause-few : goal.returns-then-made-added-ge-MOST_MADE-clause-few
+returns-then-made-added-ge-MOST_MADE-clause-few c = omega arith
+
+pub returns-in_err-reserve-clause-few : goal.returns-in_err-reserve-clause-few
+returns-in_err-reserve-clause-few c =
+    less_few c.args.graph.now c.reserve.new.self _ (few_missing (goal.at.returns-in_err-reserve-clause-few c).After-missing_in-added) c.in_err-reserve.ensures.err
+
+pub returns-in_err-gone-clause-few : goal.returns-in_err-gone-clause-few
+returns-in_err-gone-clause-few c =
+    grown_few c.args.graph.now c.reserve.new.self _ (few_missing (goal.at.returns-in_err-gone-clause-few c).After-missing_in-added) c.in_ok-reserve.ensures.ok
+
+pub returns-in_err-parts_of-clause-few : goal.returns-in_err-parts_of-clause-few
+returns-in_err-parts_of-clause-few c =
+    grown_few c.args.graph.now c.reserve.new.self _ (few_missing (goal.at.returns-in_err-parts_of-clause-few c).After-missing_in-added) c.in_ok-reserve.ensures.ok
+
+pub returns-clause-few : goal.returns-clause-few
+returns-clause-few c =
+    grown_few c.args.graph.now c.reserve.new.self _ (few_missing (goal.at.returns-clause-few c).After-missing_in-added) c.in_ok-reserve.ensures.ok

@@ -1,18 +1,17 @@
-use Rattle.std.proofs.Common.{[], ap, ◌∙◌}
-use Rattle.session_spec.specs.Replies.{accepted_line}
-use Rattle.session_run.proofs.TalkLemmas.{opened_cut, opened_replies}
+use Rattle.std.proofs.Common.{refl, subst}
+use Rattle.generator_spec.specs.Ending.{Ends}
+use Rattle.session_run.specs.Sessions.{unshown, shown}
+use Rattle.session_run.proofs.EditLemmas.{watch_live, watch_shown}
 use Rattle.session_run.proofs.sessions.opened.Goals as goal
 
-pub returns-in-Err-give-clause-ends : goal.returns-in-Err-give-clause-ends
-returns-in-Err-give-clause-ends g c =
-    opened_cut c.args.session (g.F.Folder.state c.args.folder.now) (g.I.Source.state c.args.input.now) (g.O.Sink.state c.args.out.now)
-    c.as_slice.result.now (c.as_slice.ensures.value ∙ c.in-Ok.ensures ∙ ap accepted_line c.counts-counts.ensures) c.args.steps.now
-    c.in-Err-give.field-0 (g.O.Sink.state c.give.new.self) c.in-Err-give.ensures.given
+pub shown-requires : goal.shown-requires
+shown-requires g c = watch_live c.args.session c.slots.result.now c.slots.ensures.slots _ c.view.ensures c.slots.ensures.live
 
-pub returns-clause-ends : goal.returns-clause-ends
-returns-clause-ends g c =
-    opened_replies c.args.session (g.F.Folder.state c.args.folder.now) (g.I.Source.state c.args.input.now) (g.O.Sink.state c.args.out.now)
-    c.as_slice.result.now (c.as_slice.ensures.value ∙ c.in-Ok.ensures ∙ ap accepted_line c.counts-counts.ensures) c.args.steps.now
-    (g.O.Sink.state c.give.new.self) (g.O.Sink.state c.talk.new.out) (g.F.Folder.state c.talk.new.folder) c.talk.new.session
-    (g.I.Source.state c.talk.new.input) c.talk.result c.talk.new.steps c.in-Ok-give.ensures.given
-    c.talk.ensures.talks (c.talk.ensures.asks []).asks
+pub returns-in-Err-clause-ends : goal.returns-in-Err-clause-ends
+returns-in-Err-clause-ends g c =
+    unshown refl refl c.in-Err.ensures refl
+    (subst (λ line. Ends 8 line (g.O.Sink.state c.args.out.now) (g.O.Sink.state c.tell.new.out) c.tell.result) c.memory_line.ensures c.tell.ensures.ends)
+
+pub returns-in-Ok-clause-ends : goal.returns-in-Ok-clause-ends
+returns-in-Ok-clause-ends g c =
+    shown (g.W.Watch.seen c.shown.new.self) (watch_shown c.args.session c.slots.result.now c.slots.ensures.slots _ c.view.ensures _ _ c.in-Ok.ensures) c.shown-in-Ok.ensures.ends

@@ -11,7 +11,7 @@ returns-in-Ok-clause-makes g c before is =
     let edit = c.args.edit.now in
     let out = g.O.Sink.state c.args.out.now in
     let gone = g.O.Sink.state c.give.new.out in
-    seen_by (c.in-Ok.ensures.edits before is) (λ after edits. makes_replied before edit out after gone c.in-Ok.line c.give.result edits.comes edits.looks edits.steps
+    seen_by (c.in-Ok.ensures.edits before is) (λ after edits. makes_replied before edit out after gone edits.showings edits.sees c.in-Ok.line c.give.result edits.comes edits.looks edits.steps
     (subst (λ line. GivesReply line out gone c.give.result) c.as_slice.ensures c.give.ensures.gives))
 
 pub returns-in-Ok-clause-asks : goal.returns-in-Ok-clause-asks
@@ -24,7 +24,7 @@ returns-in-Err-ReadFault-clause-makes g c before is =
     let gone = g.O.Sink.state c.tell.new.out in
     seen_by (c.in-Err-ReadFault.ensures.edits before is) (λ after edits.
     let comes = subst (λ fault. Edits before edit (Err fault) after) c.in-Err-ReadFault.field-0-is edits in
-    makes_fault before edit out after gone c.tell.result comes.comes comes.looks comes.steps
+    makes_fault before edit out after gone comes.showings comes.sees c.tell.result comes.comes comes.looks comes.steps
     (subst (λ line. Ends 4 line out gone c.tell.result) c.read_fault_line.ensures c.tell.ensures.ends))
 
 pub returns-in-Err-Memory-clause-makes : goal.returns-in-Err-Memory-clause-makes
@@ -34,5 +34,5 @@ returns-in-Err-Memory-clause-makes g c before is =
     let gone = g.O.Sink.state c.tell-in-Err-Memory.new.out in
     seen_by (c.in-Err-Memory.ensures.edits before is) (λ after edits.
     let comes = subst (λ fault. Edits before edit (Err fault) after) c.in-Err-Memory.field-0-is edits in
-    makes_nothing before edit out after gone c.tell-in-Err-Memory.result comes.comes comes.looks comes.steps
+    makes_nothing before edit out after gone comes.showings comes.sees c.tell-in-Err-Memory.result comes.comes comes.looks comes.steps
     (subst (λ line. Ends 8 line out gone c.tell-in-Err-Memory.result) c.memory_line.ensures c.tell-in-Err-Memory.ensures.ends))

@@ -1,4 +1,4 @@
-use Rattle.std.proofs.Common.{◌≡◌, List, length, sym, subst}
+use Rattle.std.proofs.Common.{◌≡◌, List, length, sym, ap, subst, arith}
 use Rattle.std.specs.Prelude.{All}
 use Rattle.slot_arena.specs.Counts.{live}
 use Rattle.slot_arena.specs.declared.slot.Slot.{Slot}
@@ -44,3 +44,10 @@ returns-clause-planned c =
     (IsPlanned (length c.args.self.now.graph) (shown c.plan_of.new.graph c.self.inside.slots.items) c.args.trace.now)
     c.plan_of.ensures.planned
     (λ plan next. subst (λ (l : Links). IsPlanned (length l.graph) (shown c.plan_of.new.graph c.self.inside.slots.items) c.args.trace.now plan) c.self.view_is (next c.self.inside.slots.items found c.self.invariant.alone))
+
+pub returns-in_err-found-clause-few : goal.returns-in_err-found-clause-few
+returns-in_err-found-clause-few c = omega arith
+
+pub returns-clause-few : goal.returns-clause-few
+returns-clause-few c =
+    let few = c.plan_of.ensures.few in let same = ap (λ (l : Links). length l.graph) c.self.view_is in omega (arith, few, same)

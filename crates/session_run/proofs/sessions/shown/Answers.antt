@@ -1,0 +1,18 @@
+use Rattle.std.proofs.Common.{[], ap, ◌∙◌}
+use Rattle.session_spec.specs.Replies.{accepted_line}
+use Rattle.session_run.proofs.TalkLemmas.{opened_cut, opened_replies}
+use Rattle.session_run.proofs.sessions.shown.Goals as goal
+
+pub returns-in-Err-give-clause-ends : goal.returns-in-Err-give-clause-ends
+returns-in-Err-give-clause-ends g c =
+    opened_cut c.args.session (g.F.Folder.state c.args.folder.now) (g.I.Source.state c.args.input.now) (g.O.Sink.state c.args.out.now) (g.W.Watch.seen c.args.watch.now)
+    c.as_slice.result.now (c.as_slice.ensures.value ∙ c.in-Ok.ensures ∙ ap accepted_line c.counts-counts.ensures) c.args.steps.now
+    c.in-Err-give.field-0 (g.O.Sink.state c.give.new.self) c.in-Err-give.ensures.given
+
+pub returns-clause-ends : goal.returns-clause-ends
+returns-clause-ends g c =
+    opened_replies c.args.session (g.F.Folder.state c.args.folder.now) (g.I.Source.state c.args.input.now) (g.O.Sink.state c.args.out.now) (g.W.Watch.seen c.args.watch.now)
+    c.as_slice.result.now (c.as_slice.ensures.value ∙ c.in-Ok.ensures ∙ ap accepted_line c.counts-counts.ensures) c.args.steps.now
+    (g.O.Sink.state c.give.new.self) (g.O.Sink.state c.talk.new.out) (g.F.Folder.state c.talk.new.folder) c.talk.new.session
+    (g.I.Source.state c.talk.new.input) (g.W.Watch.seen c.talk.new.watch) c.talk.result c.talk.new.steps c.in-Ok-give.ensures.given
+    c.talk.ensures.talks (c.talk.ensures.asks []).asks
