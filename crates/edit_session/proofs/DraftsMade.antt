@@ -1,5 +1,5 @@
 -- Changes of a draft, one after another.
-use Rattle.std.proofs.Common.{◌≡◌, ◌∷◌, [], ◌++◌, ℕ, Bool, true, false, List, Some, Result, Ok, Err, refl, sym, ap, ◌∙◌, subst, arith, length-append}
+use Rattle.std.proofs.Common.{◌≡◌, ◌∷◌, [], ◌++◌, ℕ, Bool, true, false, List, Some, None, Result, Ok, Err, refl, sym, ap, ◌∙◌, subst, arith, length-append}
 use Rattle.std.specs.FinMap.{get, remove}
 use Rattle.std.specs.List.{list_any}
 use Rattle.std.specs.Prelude.{◌<◌, bytes_eq, not, length, Contains, if◌then◌else◌}
@@ -10,14 +10,16 @@ use Rattle.tree_spec.specs.declared.LimitName.TheVariants.{Entries}
 use Rattle.config_spec.specs.Projects.{without}
 use Rattle.config_spec.proofs.Entries.{filtered_distinct, filtered_fewer}
 use Rattle.edit_session.specs.Stopping.{stop_of}
-use Rattle.std.proofs.lemmas.List.Elements.{Contains-append_left, Contains-append_right}
+use Rattle.std.proofs.lemmas.List.Elements.{All-weaker, Contains-append_left, Contains-append_right}
 use Rattle.tree_spec.specs.States.{FolderState}
 use Rattle.tree_spec.specs.Trees.{Tree, IsTree, bare_tree}
 use Rattle.tree_spec.specs.declared.LookFault.{LookFault}
 use Rattle.tree_spec.specs.declared.LookFault.TheVariants as look
 use Rattle.package_lookup.specs.declared.known.Known.{Known}
 use Rattle.package_lookup.specs.declared.over.Over.{Over}
-use Rattle.package_lookup.specs.LaidTrees.{IsLaid}
+use Rattle.package_lookup.specs.LaidTrees.{StandsBehind, IsLaid}
+use Rattle.package_lookup.specs.Looked.{kept_at, over_at}
+use Rattle.package_lookup.proofs.Laying.{laid_alike}
 use Rattle.session_spec.specs.declared.Change.{Change}
 use Rattle.session_spec.specs.declared.Change.TheVariants.{Link, Unlink, Put, Drop}
 use Rattle.tree_spec.specs.FoldersAbove.{folders_from}
@@ -311,8 +313,55 @@ Completes edit before rest now =
     (result : Result (Unit {0}) ChangeStop) (after : Work) → MakesAll rest now result after
     → MakesAll edit before result after
 
-pub begins : (edit : List Change) (before : Work) → Completes edit before edit before
-begins edit before result after makes = makes
+-- what is known, and is laid, is the same elsewhere in memory
+module _ (edit : List Change) (folder : FolderState) (known alike : Known) (over same : Over)
+    (entries : List (List ℕ)) (laid : alike.laid ≡ known.laid)
+    (kept : (path : List ℕ) → kept_at alike path ≡ kept_at known path)
+    (overs : (path : List ℕ) → over_at same path ≡ over_at over path) where
+  abbrev was : Work
+  was = work folder known over entries
+
+  abbrev now_is : Work
+  now_is = work folder alike same entries
+
+  stands_on : (tree : Tree) → StandsBehind tree known → StandsBehind tree alike
+  stands_on tree stands = record { kept = λ path look e. stands.kept path look (sym (kept path) ∙ e) }
+
+  draft_on : (tree : Tree) (draft : Draft) → IsDraftOf tree was draft → IsDraftOf tree now_is draft
+  draft_on tree draft is = record {
+    seen = record {
+      stands = stands_on tree is.seen.stands;
+      laid = laid_alike tree draft.tree over same overs is.seen.laid;
+      is_tree = is.seen.is_tree;
+    };
+    entries_are = is.entries_are;
+  }
+
+  pub begins : Completes edit was edit now_is
+  begins result after makes = record {
+    looks = record {
+      laid = makes.looks.laid ∙ laid;
+      kept = λ path look e. makes.looks.kept path look (kept path ∙ e);
+      behind = λ tree e stands. makes.looks.behind tree e (stands_on tree stands);
+      asked = λ list e.
+          (let asks = makes.looks.asked list e in
+          record {
+            more = asks.more;
+            asked = asks.asked;
+            once = asks.once;
+            new = All-weaker (λ path. kept_at alike path ≡ None) (λ path. kept_at known path ≡ None)
+                (λ path none. sym (kept path) ∙ none) asks.more asks.new;
+            held = asks.held;
+            among = All-weaker
+                (λ path. (tree : Tree) → folder.holds ≡ Some tree → AsksAll edit now_is tree path)
+                (λ path. (tree : Tree) → folder.holds ≡ Some tree → AsksAll edit was tree path)
+                (λ path goes tree told draft is. goes tree told draft (draft_on tree draft is)) asks.more asks.among;
+          });
+      looks = makes.looks.looks;
+    };
+    leaves = λ tree draft e is. makes.leaves tree draft e (draft_on tree draft is);
+    kind = makes.kind;
+  }
 
 pub goes_on : (edit rest more : List Change) (change : Change) (before now next : Work) → rest ≡ change ∷ more
     → Completes edit before rest now → MakesOne change now (Ok tt) next → Completes edit before more next

@@ -1,6 +1,6 @@
 -- Looks that are those that are laid but at some paths.
 use Rattle.std.proofs.Common.{◌≡◌, ◌∷◌, ◌++◌, ◌||◌, [], ℕ, Bool, true, false, List, Option, Some, Result, Ok, Err}
-use Rattle.std.proofs.Common.{refl, ap, ◌∙◌}
+use Rattle.std.proofs.Common.{refl, sym, ap, ◌∙◌, subst}
 use Rattle.std.specs.Prelude.{bytes_eq, length, cond, OnOk, OnErr}
 use Rattle.std.specs.List.{list_any}
 use Rattle.std.proofs.lemmas.Cmp.{nat_list_eq_equiv}
@@ -81,6 +81,12 @@ pub agrees_same : (changed : List (List ℕ)) (laid over next : Over)
     → ((path : List ℕ) → over_at next path ≡ over_at over path) → AgreeBut changed laid over
     → AgreeBut changed laid next
 agrees_same changed laid over next same agree = λ at none. same at ∙ agree at none
+
+pub agrees_alike : (changed : List (List ℕ)) (laid as_laid over next : Over) → as_laid ≡ laid
+    → ((path : List ℕ) → over_at next path ≡ over_at over path) → AgreeBut changed laid over
+    → AgreeBut changed as_laid next
+agrees_alike changed laid as_laid over next e same agree =
+    subst (λ there. AgreeBut changed there next) (sym e) (agrees_same changed laid over next same agree)
 
 -- whatever comes of a look that is put there
 pub agrees_set : {E : Type 0} (path : List ℕ) (changed : List (List ℕ)) (laid over next : Over) (look : Look)

@@ -14,7 +14,7 @@ use std::alloc::Global;
 use tree_model::{Folder, Path};
 use tree_spec::LookFault;
 
-/// Makes changes one after another.
+/// Makes changes one after another, with room made before for the looks that they take.
 pub(crate) fn make_all<F: Folder>(
     alloc: Global,
     looks: &mut Looks,
@@ -26,6 +26,7 @@ pub(crate) fn make_all<F: Folder>(
         (work (F.state folder.old) looks.old.known looks.old.over entries.old) result
         (work (F.state folder.new) looks.new.known looks.new.over entries.new) }
 {
+    looks.make_room(looks_taken(edit));
     let mut rest = edit;
     while let Some((change, more)) = rest.split_first() {
         match make(alloc, looks, entries, folder, change) {
@@ -34,6 +35,20 @@ pub(crate) fn make_all<F: Folder>(
         }
     }
     Ok(())
+}
+
+// How many looks the changes of files take at most.
+fn looks_taken(edit: &[Change]) -> usize {
+    let mut taken = 0usize;
+    for change in edit {
+        taken = taken.saturating_add(match change {
+            Change::Link { .. } => 0,
+            Change::Unlink { .. } => 0,
+            Change::Put { path, .. } => path.as_str().split('/').count().saturating_sub(1),
+            Change::Drop { .. } => 1,
+        });
+    }
+    taken
 }
 
 // Makes one change.

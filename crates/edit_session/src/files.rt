@@ -14,7 +14,6 @@ ghost use Rattle.edit_session.specs.Making.{MakesTree};
 
 use crate::looks::Looks;
 use crate::standing::Standing;
-use package_lookup::Trail;
 use shared_types::{Bytes, Memory};
 use std::alloc::Global;
 use tree_model::{Folder, Look, Path};
@@ -62,16 +61,14 @@ fn can_put<F: Folder>(
         (λ seen. spec.can_put (get seen) path.now) (λ seen. climbed (get seen) (folders_from path.now))
         (F.state folder.old) looks.old.known looks.old.over result (F.state folder.new) looks.new.known looks.new.over }
 {
-    // One trail for all looks of a put, so that they take little memory of their own.
-    let mut trail = Trail::new(alloc);
-    match looks.standing_of(alloc, folder, path, &mut trail) {
+    match looks.standing_of(alloc, folder, path) {
         Err(fault) => Err(fault),
         Ok(Standing::Folder) => Ok(false),
         Ok(Standing::File) => Ok(true),
         Ok(Standing::Nothing) => match path.parent(alloc) {
             Err(_) => Err(LookFault::Memory),
             Ok(None) => Ok(true),
-            Ok(Some(parent)) => make_folders(alloc, looks, folder, &parent, &mut trail),
+            Ok(Some(parent)) => make_folders(alloc, looks, folder, &parent),
         },
     }
 }
@@ -82,22 +79,20 @@ fn make_folders<F: Folder>(
     looks: &mut Looks,
     folder: &mut F,
     at: &Path,
-    trail: &mut Trail,
 ) -> Result<bool, LookFault>
-    requires { trail.old.size ≡ 0 }
     ensures { MakesTree (λ tree seen left. IsLaid tree left (with_folders seen (folders_from at.now)))
         (λ seen. list_all (λ above. not (spec.is_file (get seen above))) (folders_from at.now))
         (λ seen. climbed (get seen) (folders_from at.now))
         (F.state folder.old) looks.old.known looks.old.over result (F.state folder.new) looks.new.known looks.new.over }
 {
-    match looks.standing_of(alloc, folder, at, trail) {
+    match looks.standing_of(alloc, folder, at) {
         Err(fault) => Err(fault),
         Ok(Standing::Folder) => Ok(true),
         Ok(Standing::File) => Ok(false),
         Ok(Standing::Nothing) => match at.parent(alloc) {
             Err(_) => Err(LookFault::Memory),
             Ok(None) => Ok(true),
-            Ok(Some(parent)) => match make_folders(alloc, looks, folder, &parent, trail) {
+            Ok(Some(parent)) => match make_folders(alloc, looks, folder, &parent) {
                 Err(fault) => Err(fault),
                 Ok(false) => Ok(false),
                 Ok(true) => match looks.set(alloc, at, Look::Folder) {
@@ -120,8 +115,7 @@ pub(crate) fn drop_file<F: Folder>(
         (λ seen. spec.is_file (get seen path.now)) (λ seen. path.now ∷ [])
         (F.state folder.old) looks.old.known looks.old.over result (F.state folder.new) looks.new.known looks.new.over }
 {
-    let mut trail = Trail::new(alloc);
-    match looks.standing_of(alloc, folder, path, &mut trail) {
+    match looks.standing_of(alloc, folder, path) {
         Err(fault) => Err(fault),
         Ok(Standing::Nothing) => Ok(false),
         Ok(Standing::Folder) => Ok(false),

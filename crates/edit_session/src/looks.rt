@@ -1,7 +1,7 @@
-ghost use Rattle.std.specs.Prelude.{◌≡◌, List, ℕ, Ok, OnOk};
+ghost use Rattle.std.specs.Prelude.{◌≡◌, List, ℕ, OnOk};
 ghost use Rattle.kept_trace.specs.Ready.{AreAllRight, is_anew};
 ghost use Rattle.std.specs.FinMap.{get};
-ghost use Rattle.package_lookup.specs.Looked.{over_at, Puts};
+ghost use Rattle.package_lookup.specs.Looked.{kept_at, over_at, Puts};
 ghost use Rattle.request_trace.specs.Tracing.{StepsByFresh, TakesSteps};
 ghost use Rattle.session_spec.specs.SessionStates.{config_with};
 ghost use Rattle.edit_session.specs.Mapping.{IsKeptFor};
@@ -9,7 +9,6 @@ ghost use Rattle.edit_session.specs.Shown.{KeepsShown, PlansFor};
 ghost use Rattle.edit_session.specs.SessionTrees.{steps_of};
 ghost use Rattle.edit_session.specs.Agreement.{AgreeBut};
 ghost use Rattle.edit_session.specs.Standings.{Stands};
-ghost use Rattle.edit_session.specs.declared.standing.Standing.TheVariants.{Nothing};
 ghost use Rattle.edit_session.specs.Trying.{IfLaid, TriesMap};
 
 use crate::entries::Entries;
@@ -18,7 +17,7 @@ use crate::standing::{Standing, standing_of};
 use crate::trying::try_map;
 use generation::{Generated, Stop};
 use kept_trace::TraceAnswers;
-use package_lookup::{Known, Over, Trail};
+use package_lookup::{Known, Over};
 use request_trace::Config;
 use shared_types::{Memory, Steps};
 use std::alloc::Global;
@@ -43,6 +42,7 @@ impl Looks {
         ensures known { self.new.known ≡ self.old.known }
         ensures level { OnOk result ((path : List ℕ) → over_at self.new.over path ≡ over_at self.new.known.laid path) }
     {
+        self.over.make_room(self.changed.len());
         make_level(
             alloc,
             self.known.laid(),
@@ -53,21 +53,27 @@ impl Looks {
         Ok(())
     }
 
-    /// What stands at a path, where the looks of the edit are laid over what is known. On the trail are looks at which no
-    /// file stood.
+    /// Makes room for so many looks that an edit takes, and lays.
+    pub(crate) fn make_room(&mut self, more: usize)
+        ensures laid { self.new.known.laid ≡ self.old.known.laid }
+        ensures kept { (path : List ℕ) → kept_at self.new.known path ≡ kept_at self.old.known path }
+        ensures over { (path : List ℕ) → over_at self.new.over path ≡ over_at self.old.over path }
+    {
+        self.known.make_room(more);
+        self.over.make_room(more);
+    }
+
+    /// What stands at a path, where the looks of the edit are laid over what is known.
     pub(crate) fn standing_of<F: Folder>(
         &mut self,
         alloc: Global,
         folder: &mut F,
         path: &Path,
-        trail: &mut Trail,
     ) -> Result<Standing, LookFault>
-        requires { trail.old.size ≡ 0 }
-        ensures stands { Stands (F.state folder.old) self.old.known self.old.over path.now result
+        ensures { Stands (F.state folder.old) self.old.known self.old.over path.now result
             (F.state folder.new) self.new.known self.new.over }
-        ensures trail { result ≡ Ok Nothing → trail.new.size ≡ 0 }
     {
-        standing_of(alloc, &mut self.known, &mut self.over, folder, path, trail)
+        standing_of(alloc, &mut self.known, &mut self.over, folder, path)
     }
 
     /// Puts a look of the edit at its path.

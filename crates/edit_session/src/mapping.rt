@@ -7,7 +7,7 @@ ghost use Rattle.edit_session.specs.Mapping.{GeneratesIf, IfKnown, LeavesAnswers
 ghost use Rattle.edit_session.specs.Shown.{KeepsShown, IsPlannedBy, PlansFor};
 
 use crate::showing::Showing;
-use generation::{ComputedDigests, Generated, Stop, map_of, stop_of};
+use generation::{Generated, Stop, stop_of};
 use kept_trace::TraceAnswers;
 use package_lookup::Known;
 use request_trace::{Config, Trace};
@@ -58,7 +58,7 @@ fn map_with_plan(
     ensures shown { KeepsShown shown.old.links shown.new.links }
     ensures planned { OnOk result (IsPlannedBy (length shown.old.links.graph) trace.now shown.new) }
 {
-    match map_of(alloc, config, trace, &ComputedDigests {}) {
+    match shown.map(alloc, config, trace) {
         Err(stop) => Err(stop),
         Ok(generated) => match shown.plan(alloc, trace) {
             Err(_) => Err(Stop::Memory),

@@ -1,7 +1,7 @@
 ghost use Rattle.std.specs.Prelude.{◌≡◌, None, Some, true, is_some, All, IfSome};
 ghost use Rattle.request_trace.specs.Tracing.{TakesSteps};
 ghost use Rattle.kept_trace.specs.Ready.{IsEmptyUnder};
-ghost use Rattle.trace_graph.specs.Links.{IsLive};
+ghost use Rattle.trace_graph.specs.Links.{IsLinked, IsLive};
 ghost use Rattle.edit_session.specs.Agreement.{AgreeBut, next_over, is_changed};
 
 use crate::entries::Entries;
@@ -315,7 +315,8 @@ impl Session {
     /// The modules of the map's trace, as a graph: each has one slot, and each of their requests has the slot of the
     /// module to which it leads. An edit that is prepared isn't seen in it.
     pub fn view(&self) -> View<'_>
-        ensures { result ≡ (shown_in self.now).graph }
+        ensures graph { result ≡ (shown_in self.now).graph }
+        ensures linked { IsLinked (shown_in self.now) }
     {
         self.shown.view()
     }

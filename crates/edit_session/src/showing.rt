@@ -1,20 +1,25 @@
-ghost use Rattle.std.specs.Prelude.{◌≡◌, Some, None, [], true, is_some, length, All, OnOk};
+ghost use Rattle.std.specs.Prelude.{◌≡◌, Some, None, [], true, is_some, length, All, IfOk, OnOk};
+ghost use Rattle.generator_spec.specs.Generation.{PageIsFile};
+ghost use Rattle.generation.specs.Mapping.{MapsTrace};
 ghost use Rattle.graph_repair.specs.Plans.{shown};
 ghost use Rattle.graph_repair.specs.declared.parts.Plan as declared;
 ghost use Rattle.trace_graph.specs.Links.{IsLive};
 ghost use Rattle.edit_session.specs.Shown.{KeepsShown, IsPlan, IsPlannedBy, IsNextShown, NoMorePlaces};
 
+use generation::{Generated, KeptMap, Stop, map_by};
 use graph_repair::{Plan, ShownGraph, Slot, View};
-use request_trace::Trace;
+use request_trace::{Config, Trace};
 use shared_types::Memory;
 use std::alloc::Global;
 use std::marker::Model;
 
-/// The modules that a session shows, and the plan to show others, if one is made.
+/// The modules that a session shows, and the plan to show others, if one is made. What is kept of its maps lies beside
+/// them: no contract sees it, since it serves each trace, whatever becomes of an edit.
 #[derive(Drop)]
 pub(crate) struct Showing {
     graph: ShownGraph,
     plan: Option<Plan>,
+    kept: KeptMap,
 }
 
 impl Model for Showing {
@@ -35,7 +40,22 @@ impl Showing {
         Showing {
             graph: ShownGraph::new(alloc),
             plan: None,
+            kept: KeptMap::new(alloc),
         }
+    }
+
+    /// The map of a trace, by what is kept of earlier ones.
+    pub(crate) fn map(
+        &mut self,
+        alloc: Global,
+        config: &Config,
+        trace: &Trace,
+    ) -> Result<Generated, Stop>
+        ensures maps { MapsTrace config.now trace.now.gathered result }
+        ensures page { IfOk result (λ found. PageIsFile config.now) }
+        ensures same { self.new ≡ self.old }
+    {
+        map_by(alloc, config, trace, &mut self.kept)
     }
 
     /// Plans to show the modules of a trace.

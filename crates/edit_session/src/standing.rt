@@ -1,13 +1,10 @@
-ghost use Rattle.std.specs.Prelude.{◌≡◌, ◌<◌, length, Ok};
-ghost use Rattle.tree_spec.specs.Limits.{limit_number};
-ghost use Rattle.tree_spec.specs.declared.LimitName.TheVariants.{Looks as LookLimit};
-ghost use Rattle.edit_session.specs.Standings.{Stands, standing_by};
-ghost use Rattle.edit_session.specs.declared.standing.Standing.TheVariants.{Nothing};
+ghost use Rattle.std.specs.Prelude.{◌≡◌};
+ghost use Rattle.edit_session.specs.Standings.{Stands, standing_by, standing_seen};
 
-use package_lookup::{Known, LookupFault, Over, Seen, Trail};
+use package_lookup::{Held, Known, LookupFault, Over, Seen};
 use std::alloc::Global;
 use tree_model::{Folder, Path};
-use tree_spec::{LookFault, MOST_LOOKS};
+use tree_spec::LookFault;
 
 /// What stands at a path, as far as an edit asks.
 #[derive(Clone, Copy, Debug, PartialEq, Eq)]
@@ -17,49 +14,44 @@ pub(crate) enum Standing {
     File,
 }
 
-/// What stands at a path, where these looks are laid over what is known. It counts under no limit: on the trail are
-/// looks at which no file stood, and where there is no room for another one begins.
+/// What stands at a path, where these looks are laid over what is known. It counts under no limit.
 pub(crate) fn standing_of<F: Folder>(
     alloc: Global,
     known: &mut Known,
     over: &mut Over,
     folder: &mut F,
     path: &Path,
-    trail: &mut Trail,
 ) -> Result<Standing, LookFault>
-    requires { trail.old.size ≡ 0 }
-    ensures stands { Stands (F.state folder.old) known.old over.old path.now result
+    ensures { Stands (F.state folder.old) known.old over.old path.now result
         (F.state folder.new) known.new over.new }
-    ensures trail { result ≡ Ok Nothing → trail.new.size ≡ 0 }
 {
     let _is_path = path.as_str();
-    make_room(alloc, trail);
     known.lay(over);
-    let looked = known.look(alloc, folder, path, trail);
+    let held = known.hold(alloc, folder, path);
     known.lay(over);
-    standing_by(looked)
+    standing_by(held)
 }
 
-fn make_room(alloc: Global, trail: &mut Trail)
-    requires { trail.old.size ≡ 0 }
-    ensures size { trail.new.size ≡ 0 }
-    ensures room { length trail.new.paths < limit_number LookLimit }
+fn standing_by(held: Result<Held, LookupFault>) -> Result<Standing, LookFault>
+    ensures { result ≡ standing_by held }
 {
-    if trail.paths().len() >= MOST_LOOKS {
-        *trail = Trail::new(alloc);
-    }
-}
-
-fn standing_by(looked: Result<Seen, LookupFault>) -> Result<Standing, LookFault>
-    ensures { result ≡ standing_by looked }
-{
-    match looked {
-        Ok(Seen::Absent) => Ok(Standing::Nothing),
-        Ok(Seen::Folder) => Ok(Standing::Folder),
-        Ok(Seen::File(_)) => Ok(Standing::File),
-        Err(LookupFault::Limit { .. }) => Ok(Standing::File),
+    match held {
+        Ok(held) => Ok(standing_seen(held)),
         Err(LookupFault::ReadFault) => Err(LookFault::Failed),
         Err(LookupFault::Memory) => Err(LookFault::Memory),
         Err(LookupFault::InvalidConfig) => Err(LookFault::Memory),
+        Err(LookupFault::Limit { .. }) => Err(LookFault::Memory),
+    }
+}
+
+fn standing_seen(held: Held) -> Standing
+    ensures { result ≡ standing_seen held }
+{
+    let (seen, _) = held.into_parts();
+    match seen {
+        None => Standing::File,
+        Some(Seen::Absent) => Standing::Nothing,
+        Some(Seen::Folder) => Standing::Folder,
+        Some(Seen::File(_)) => Standing::File,
     }
 }

@@ -1,12 +1,11 @@
 -- How the digests of a trace are put together, from its last module on.
-use Rattle.std.proofs.Common.{◌≡◌, ◌<◌, ◌≤◌, ℕ, zero, suc, List, [], ◌∷◌, length, drop, Option, Some, None, Result, Ok, Err, refl, sym, ap, ◌∙◌, subst, arith}
+use Rattle.std.proofs.Common.{◌≡◌, ◌<◌, ◌≤◌, ℕ, zero, suc, List, [], ◌∷◌, length, drop, Some, Result, Ok, Err, refl, sym, ap, ◌∙◌, subst, arith}
 use Rattle.std.specs.BTreeMap.{BTreeMap, Updates}
 use Rattle.std.specs.Cmp.Lexicographic.{slice_cmp}
 use Rattle.std.specs.FinMap.{entries, from_entries, insert}
 use Rattle.std.proofs.lemmas.List.{drop_all}
 use Rattle.std.specs.Ordering.{nat_cmp}
-use Rattle.std.proofs.lemmas.Option.{same_Some}
-use Rattle.std.specs.Prelude.{map, slice_get, option_map, IfOk}
+use Rattle.std.specs.Prelude.{map, slice_get, IfOk}
 use Rattle.import_map_spec.specs.ParsedMap.{Texts}
 use Rattle.trace_spec.specs.Modules.{Config, Module, web_name}
 use Rattle.trace_spec.specs.Questions.{Source}
@@ -15,15 +14,7 @@ use Rattle.generator_spec.specs.Digests.{digests, with_digest}
 use Rattle.layout.proofs.Ordered.{entries_mapped}
 use Rattle.layout.proofs.Updates.{finite_insert}
 use Rattle.scope_builder.specs.Keys.{InKeyOrder}
-use Rattle.generation.specs.Digesting.{HasEach, kept_texts}
-
--- the digest of a module whose bytes were found may be asked for
-pub has_found : (has : ℕ → List ℕ → Type 0) (sources : List Source) (place : ℕ) (bytes : List ℕ) → HasEach has sources → Some bytes ≡ option_map (λ source. source.bytes) (slice_get sources place) → has place bytes
-has_found has sources place bytes each found = by (slice_get sources place) refl found
-  where
-    by : (at : Option Source) → slice_get sources place ≡ at → Some bytes ≡ option_map (λ source. source.bytes) at → has place bytes
-    by None there e = absurd (cc)
-    by (Some source) there e = subst (λ b. has place b) (sym (same_Some bytes source.bytes e)) (each place source there)
+use Rattle.generation.specs.Digesting.{kept_texts}
 
 pub kept_inserted : (m n : BTreeMap (List ℕ) (List ℕ)) (key text digest : List ℕ) → text ≡ digest → Updates (slice_cmp nat_cmp) m n key (Some text) → kept_texts n ≡ insert (kept_texts m) key digest
 kept_inserted m n key text digest t put = finite_insert (λ x. x) m n key text put ∙ ap (insert (kept_texts m) key) t

@@ -1,2 +1,3 @@
 pub mod Generatings
 pub mod Digestings
+pub mod KeptNeeds

@@ -1,5 +1,4 @@
 -- How digests are kept in memory.
---     HasEach has sources  the digests of all of these may be asked for, each at its place
 --     kept_texts kept      the finite map of a map in memory
 --     IsPut config all place before after      the digest of the module at a place was put there
 use Rattle.std.specs.BTreeMap.{BTreeMap}
@@ -14,10 +13,6 @@ use Rattle.generator_spec.specs.Digests.{with_digest}
 
 abbrev pub kept_texts : BTreeMap (List ℕ) (List ℕ) → Texts (List ℕ)
 kept_texts kept = from_entries (map (λ e. (e.0, e.1)) kept.entries)
-
--- own: by what may be asked for of a place and bytes
-abbrev pub HasEach : (ℕ → List ℕ → Type 0) → List Source → Type 0
-HasEach has sources = (place : ℕ) (source : Source) → slice_get sources place ≡ Some source → has place source.bytes
 
 abbrev pub IsPut : Config → Gathered → ℕ → Texts (List ℕ) → Texts (List ℕ) → Type 0
 IsPut config all place before after =

@@ -2,3 +2,4 @@ pub mod Generating
 pub mod Mapping
 pub mod Paging
 pub mod Digesting
+pub mod Keeping

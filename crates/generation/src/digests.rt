@@ -1,10 +1,11 @@
-ghost use Rattle.std.specs.Prelude.{◌≡◌, IfOk, OnOk};
+ghost use Rattle.std.specs.Prelude.{◌≡◌, IfOk, OnOk, option_map, slice_get};
 ghost use Rattle.std.specs.FinMap.{entries};
+ghost use Rattle.trace_graph.specs.Links.{source_of};
 ghost use Rattle.generator_spec.specs.Digests as definition;
-ghost use Rattle.generation.specs.Digesting.{HasEach, IsPut, kept_texts};
+ghost use Rattle.generation.specs.Digesting.{IsPut, kept_texts};
 
 use crate::digester::Digester;
-use request_trace::{Config, Trace};
+use request_trace::{Config, ModuleView, Trace};
 use scope_builder::Mappings;
 use shared_types::{Memory, Text};
 use std::alloc::Global;
@@ -18,9 +19,8 @@ pub(crate) fn digests<D: Digester>(
     alloc: Global,
     config: &Config,
     trace: &Trace,
-    digester: &D,
+    digester: &mut D,
 ) -> Result<Mappings, Memory>
-    requires { HasEach (D.has digester.now) trace.now.gathered.sources }
     ensures { IfOk result (λ pairs. pairs
         ≡ entries (definition.digests config.now trace.now.gathered.modules trace.now.gathered.sources)) }
 {
@@ -39,33 +39,38 @@ fn put<D: Digester>(
     kept: &mut Digests,
     config: &Config,
     trace: &Trace,
-    digester: &D,
+    digester: &mut D,
     place: usize,
 ) -> Result<(), Memory>
-    requires { HasEach (D.has digester.now) trace.now.gathered.sources }
     ensures { OnOk result (IsPut config.now trace.now.gathered place (kept_texts kept.old) (kept_texts kept.new)) }
 {
     let url = trace.url(alloc, config.base(), place)?;
-    let (Some(url), Some(bytes)) = (url, trace.bytes(place)) else {
+    let (Some(url), Some(module)) = (url, module_at(trace, place)) else {
         return Ok(());
     };
-    put_digest(alloc, kept, digester, place, url, bytes)
+    put_digest(alloc, kept, digester, url, &module)
 }
 
-// The same, where the module has this URL and these bytes.
+// The module at a place.
+fn module_at(trace: &Trace, place: usize) -> Option<ModuleView<'_>>
+    ensures { option_map source_of result ≡ slice_get trace.now.gathered.sources place }
+{
+    let _shown = trace.view();
+    trace.graph().module(place)
+}
+
+// Puts the digest of a module that has this URL.
 fn put_digest<D: Digester>(
     alloc: Global,
     kept: &mut Digests,
-    digester: &D,
-    place: usize,
+    digester: &mut D,
     url: Text,
-    bytes: &[u8],
+    module: &ModuleView<'_>,
 ) -> Result<(), Memory>
-    requires { D.has digester.now place bytes.now }
     ensures { OnOk result (kept_texts kept.new
-        ≡ definition.with_digest (Some url) bytes.now (kept_texts kept.old)) }
+        ≡ definition.with_digest (Some url) module.now.source.value (kept_texts kept.old)) }
 {
-    let digest = digester.digest(alloc, place, bytes)?;
+    let digest = digester.digest(alloc, module)?;
     kept.insert(url, digest)?;
     Ok(())
 }

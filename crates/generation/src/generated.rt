@@ -6,13 +6,14 @@ ghost use Rattle.request_trace.specs.Tracing.{TakesSteps, TakesStepsToEnd};
 ghost use Rattle.generator_spec.specs.Generation.{PageIsFile};
 ghost use Rattle.trace_spec.specs.Modules.{web_name};
 ghost use Rattle.trace_spec.specs.Walking.{the_page};
-ghost use Rattle.generation.specs.Digesting.{HasEach};
 ghost use Rattle.generation.specs.Generating.{Generating, GeneratingOver, IsMapOf, HasLargeMap};
 ghost use Rattle.generation.specs.Generating.{StepsToEnd, generated_of};
 ghost use Rattle.generation.specs.Mapping.{MapsTrace};
 
 use crate::digester::{ComputedDigests, Digester};
 use crate::digests::digests;
+use crate::kept_layout::KeptLayout;
+use crate::kept_map::KeptMap;
 use crate::page::page_url;
 use crate::stop::{Stop, too_large, too_many_choices};
 use crate::tracing::traced_over;
@@ -35,13 +36,6 @@ pub struct Generated {
     pub modules: usize,
     pub requests: usize,
     pub mappings: usize,
-}
-
-// Why a trace has no map at its page's URL.
-enum MapFault {
-    TooManyChoices,
-    MapTooLarge,
-    Memory,
 }
 
 /// The map of what stands in the folder, for the config. Nothing is written, and no path is looked at twice. A map
@@ -101,74 +95,83 @@ pub fn generate_traced<F: Folder, L: Ledger>(
 {
     match traced_over(alloc, folder, known, config, steps) {
         Err(stop) => Err(stop),
-        Ok(trace) => match map_of(alloc, config, &trace, &ComputedDigests {}) {
+        Ok(trace) => match map_of(alloc, config, &trace) {
             Err(stop) => Err(stop),
             Ok(generated) => Ok((generated, trace)),
         },
     }
 }
 
-/// The map of a trace, with its counts, or why there is none, whatever made the trace and whatever keeps the digests of
-/// its modules. Nothing is looked at.
-pub fn map_of<D: Digester>(
+/// The map of a trace, with its counts, or why there is none, whatever made the trace. Nothing is looked at.
+pub fn map_of(alloc: Global, config: &Config, trace: &Trace) -> Result<Generated, Stop>
+    ensures maps { MapsTrace config.now trace.now.gathered result }
+    ensures page { IfOk result (λ found. PageIsFile config.now) }
+{
+    match layout(alloc, trace.needs()) {
+        Ok(layout) => map_laid(alloc, config, trace, &layout, &mut ComputedDigests {}),
+        Err(LayoutFault::TooManyChoices) => Err(too_many_choices()),
+        Err(LayoutFault::Memory) => Err(Stop::Memory),
+    }
+}
+
+/// The same map, whatever is kept of earlier ones: what they have in common with it isn't made anew. What is made anew
+/// is kept for later ones.
+pub fn map_by(
     alloc: Global,
     config: &Config,
     trace: &Trace,
-    digester: &D,
+    kept: &mut KeptMap,
 ) -> Result<Generated, Stop>
-    requires { HasEach (D.has digester.now) trace.now.gathered.sources }
+    ensures maps { MapsTrace config.now trace.now.gathered result }
+    ensures page { IfOk result (λ found. PageIsFile config.now) }
+{
+    kept.digests.make_room(trace.len());
+    match KeptLayout::again(alloc, kept.layout.take(), trace.needs()) {
+        Ok(laid) => {
+            let found = map_laid(alloc, config, trace, laid.layout(), &mut kept.digests);
+            kept.layout = Some(laid);
+            found
+        }
+        Err(LayoutFault::TooManyChoices) => Err(too_many_choices()),
+        Err(LayoutFault::Memory) => Err(Stop::Memory),
+    }
+}
+
+// The map of a trace, where this is the layout of its needs.
+fn map_laid<D: Digester>(
+    alloc: Global,
+    config: &Config,
+    trace: &Trace,
+    layout: &Layout,
+    digester: &mut D,
+) -> Result<Generated, Stop>
+    requires fewest { FewestLists trace.now.gathered.needs layout.now }
+    requires few { HasTooManyChoices trace.now.gathered.needs → ⊥ }
     ensures maps { MapsTrace config.now trace.now.gathered result }
     ensures page { IfOk result (λ found. PageIsFile config.now) }
 {
     match page_url(alloc, config) {
         Err(stop) => Err(stop),
-        Ok(page) => match map_at(alloc, config, &page, trace, digester) {
+        Ok(page) => match printed(alloc, config, &page, trace, layout, digester) {
             Ok(generated) => Ok(generated),
-            Err(MapFault::TooManyChoices) => Err(too_many_choices()),
-            Err(MapFault::MapTooLarge) => Err(too_large()),
-            Err(MapFault::Memory) => Err(Stop::Memory),
+            Err(PrintFault::MapTooLarge) => Err(too_large()),
+            Err(PrintFault::Memory) => Err(Stop::Memory),
         },
     }
 }
 
 // The same, where the page is served at this URL.
-fn map_at<D: Digester>(
-    alloc: Global,
-    config: &Config,
-    page: &WebUrl,
-    trace: &Trace,
-    digester: &D,
-) -> Result<Generated, MapFault>
-    requires page { web_name config.now the_page ≡ Some page.now }
-    requires has { HasEach (D.has digester.now) trace.now.gathered.sources }
-    ensures map { IfOk result (IsMapOf config.now trace.now.gathered) }
-    ensures many { result ≡ Err MapFault.TooManyChoices → HasTooManyChoices trace.now.gathered.needs }
-    ensures too_large { result ≡ Err MapFault.MapTooLarge → HasLargeMap config.now trace.now.gathered }
-{
-    match layout(alloc, trace.needs()) {
-        Ok(layout) => match printed(alloc, config, page, trace, &layout, digester) {
-            Ok(generated) => Ok(generated),
-            Err(PrintFault::MapTooLarge) => Err(MapFault::MapTooLarge),
-            Err(PrintFault::Memory) => Err(MapFault::Memory),
-        },
-        Err(LayoutFault::TooManyChoices) => Err(MapFault::TooManyChoices),
-        Err(LayoutFault::Memory) => Err(MapFault::Memory),
-    }
-}
-
-// The same, where this is the layout of its needs.
 fn printed<D: Digester>(
     alloc: Global,
     config: &Config,
     page: &WebUrl,
     trace: &Trace,
     layout: &Layout,
-    digester: &D,
+    digester: &mut D,
 ) -> Result<Generated, PrintFault>
     requires page { web_name config.now the_page ≡ Some page.now }
     requires fewest { FewestLists trace.now.gathered.needs layout.now }
     requires few { HasTooManyChoices trace.now.gathered.needs → ⊥ }
-    requires has { HasEach (D.has digester.now) trace.now.gathered.sources }
     ensures map { IfOk result (IsMapOf config.now trace.now.gathered) }
     ensures too_large { result ≡ Err PrintFault.MapTooLarge → HasLargeMap config.now trace.now.gathered }
 {

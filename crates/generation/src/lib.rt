@@ -7,12 +7,15 @@ ghost use Rattle.generation.specs.Mapping.{TracesGenerate};
 mod digester;
 mod digests;
 mod generated;
+mod kept_digests;
+mod kept_layout;
+mod kept_map;
 mod page;
 mod stop;
 mod tracing;
 
-pub use digester::{ComputedDigests, Digester, KeptDigests};
-pub use generated::{Generated, generate, generate_over, generate_traced, map_of};
+pub use generated::{Generated, generate, generate_over, generate_traced, map_by, map_of};
+pub use kept_map::KeptMap;
 pub use stop::{Stop, stop_of};
 pub use tracing::traced;
 

@@ -56,6 +56,14 @@ impl Known {
         mem::swap(&mut self.laid, over);
     }
 
+    /// Makes room for so many looks more that the folder gives, as [`Over::make_room`] does for those that are laid.
+    pub fn make_room(&mut self, more: usize)
+        ensures kept { (path : List ℕ) → kept_at self.new path ≡ kept_at self.old path }
+        ensures laid { self.new.laid ≡ self.old.laid }
+    {
+        let _ = self.kept.reserve(more);
+    }
+
     /// The look at a path that the folder gave; none exactly where it gave none.
     pub fn kept(&self, path: &Path) -> Option<&Held>
         ensures { option_copied result ≡ kept_at self.now path.now }

@@ -24,6 +24,14 @@ impl Over {
         }
     }
 
+    /// Makes room for so many looks more, so that the table of them isn't made anew again and again while they are put;
+    /// where there is no memory for it, each makes its own.
+    pub fn make_room(&mut self, more: usize)
+        ensures { (path : List ℕ) → over_at self.new path ≡ over_at self.old path }
+    {
+        let _ = self.looks.reserve(more);
+    }
+
     /// Puts a look at its path, in the place of one that was there.
     pub fn set(&mut self, alloc: Global, path: &Path, look: Look) -> Result<(), Memory>
         ensures set { OnOk result (Puts self.old path.now look self.new) }

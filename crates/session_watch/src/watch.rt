@@ -7,7 +7,7 @@ use module_graph::{Slot, View};
 use shared_types::Memory;
 use std::alloc::Global;
 
-/// Who is shown the modules of a session, each time that its map is another one.
+/// Who is shown the modules of a session, at its opening and at each edit that is accepted.
 pub trait Watch {
     /// What was shown so far, where it is told.
     ghost seen: { Self → Option (List (List Shown)) };

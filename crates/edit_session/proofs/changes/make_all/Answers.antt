@@ -3,7 +3,10 @@ use Rattle.edit_session.proofs.DraftsMade.{begins, goes_on, stops_now, ends_now}
 use Rattle.edit_session.proofs.changes.make_all.Goals as goal
 
 pub loop-change-init : goal.loop-change-init
-loop-change-init g c = begins c.args.edit.now (work (g.F.Folder.state c.args.folder.now) c.args.looks.now.known c.args.looks.now.over c.args.entries.now)
+loop-change-init g c =
+    begins c.args.edit.now (g.F.Folder.state c.args.folder.now) c.args.looks.now.known c.make_room.new.self.known
+    c.args.looks.now.over c.make_room.new.self.over c.args.entries.now c.make_room.ensures.laid c.make_room.ensures.kept
+    c.make_room.ensures.over
 
 pub loop-change-preserved : goal.loop-change-preserved
 loop-change-preserved g c =

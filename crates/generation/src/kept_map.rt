@@ -1,0 +1,25 @@
+ghost use Rattle.std.specs.Prelude.{◌≡◌, None};
+
+use crate::kept_digests::KeptDigests;
+use crate::kept_layout::KeptLayout;
+use std::alloc::Global;
+
+/// What is kept of maps for later ones: the digests of modules' bytes, and the last layout. Each is taken only for the
+/// same bytes and the same needs, so it needn't be told what changes.
+#[derive(Drop)]
+pub struct KeptMap {
+    pub(crate) digests: KeptDigests,
+    pub(crate) layout: Option<KeptLayout>,
+}
+
+impl KeptMap {
+    /// Nothing is kept.
+    pub fn new(alloc: Global) -> KeptMap
+        ensures { result.layout ≡ None }
+    {
+        KeptMap {
+            digests: KeptDigests::new(alloc),
+            layout: None,
+        }
+    }
+}
