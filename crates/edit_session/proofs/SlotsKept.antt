@@ -108,108 +108,116 @@ live_at g slots i s at all = subst (IsLive g) (get_or_from_slice_get slots i s s
 module _ (now : Shows) (new : Links) (tree later : Tree) (config next_config : Config) (shown : IsShownOf tree config now.links)
     (all : Gathered) (is_all : traced (get tree) config ≡ Ok all) (plans : PlansFor (λ P. P later) next_config now)
     (other : Gathered) (is_other : traced (get later) next_config ≡ Ok other) (next : IsNextShown now.links plans.plan new)
-    where
-  abbrev old : Links
-  old = now.links
+  where
+    abbrev old : Links
+    old = now.links
 
-  links_so : AreLinksOf plans.links other
-  links_so = plans.traced_so other is_other
+    links_so : AreLinksOf plans.links other
+    links_so = plans.traced_so other is_other
 
-  repairs_so : Repairs plans.made old plans.links new
-  repairs_so = next.repairs plans.made plans.links plans.planned
+    repairs_so : Repairs plans.made old plans.links new
+    repairs_so = next.repairs plans.made plans.links plans.planned
 
-  modules_before : modules_of old ≡ all.modules
-  modules_before = sym (modules_shown old) ∙ (shown.shows all is_all).modules
+    modules_before : modules_of old ≡ all.modules
+    modules_before = sym (modules_shown old) ∙ (shown.shows all is_all).modules
 
-  modules_behind : modules_of new ≡ other.modules
-  modules_behind = repairs_so.copy.modules ∙ links_so.modules
+    modules_behind : modules_of new ≡ other.modules
+    modules_behind = repairs_so.copy.modules ∙ links_so.modules
 
-  sources_behind : sources_of new ≡ other.sources
-  sources_behind = repairs_so.copy.sources ∙ links_so.sources
+    sources_behind : sources_of new ≡ other.sources
+    sources_behind = repairs_so.copy.sources ∙ links_so.sources
 
-  once_before : AreOnce (modules_of old)
-  once_before = subst AreOnce (sym modules_before) (modules_once (get tree) config all is_all)
+    once_before : AreOnce (modules_of old)
+    once_before = subst AreOnce (sym modules_before) (modules_once (get tree) config all is_all)
 
-  once_behind : AreOnce (modules_of plans.links)
-  once_behind = subst AreOnce (sym links_so.modules) (modules_once (get later) next_config other is_other)
+    once_behind : AreOnce (modules_of plans.links)
+    once_behind = subst AreOnce (sym links_so.modules) (modules_once (get later) next_config other is_other)
 
-  missing_within : plans.made + missing repairs_so.keeps ≤ length old.graph + limit_number Modules
-  missing_within =
-      let many = ap length links_so.modules in
-      let same = length-map plans.links.slots (λ s. module_in (value_at plans.links.graph s)) in
-      let most : length other.modules ≤ limit_number Modules = few_modules (get later) next_config other is_other in
-      let some = missing_few repairs_so.keeps in
-      let count = kept_count old.graph plans.links.graph repairs_so.keeps plans.links.slots repairs_so.matching.kept in
-      let within = plans.within in
-      omega (arith, many, same, most, some, count, within)
+    missing_within : missing repairs_so.keeps ≤ limit_number Modules
+    missing_within =
+        let many = ap length links_so.modules in
+        let same = length-map plans.links.slots (λ s. module_in (value_at plans.links.graph s)) in
+        let most : length other.modules ≤ limit_number Modules = few_modules (get later) next_config other is_other in
+        let some = missing_few repairs_so.keeps in
+        let count = kept_count old.graph plans.links.graph repairs_so.keeps plans.links.slots repairs_so.matching.kept in
+        omega (arith, many, same, most, some, count)
 
-  module _ (lasts : LastsBetween old new) (i j : ℕ) (v w : Shown) (here : IsShownAt old.graph old.slots i v) (there : IsShownAt new.graph new.slots j w) where
-    abbrev before : Option Vertex
-    before = value_at old.graph here.slot
+    module _ (lasts : LastsBetween old new) (i j : ℕ) (v w : Shown) (here : IsShownAt old.graph old.slots i v) (there : IsShownAt new.graph new.slots j w) where
+      abbrev before : Option Vertex
+      before = value_at old.graph here.slot
 
-    abbrev behind : Option Vertex
-    behind = value_at new.graph there.slot
+      abbrev behind : Option Vertex
+      behind = value_at new.graph there.slot
 
-    module_before : module_shown v ≡ module_in before
-    module_before = ap module_shown here.is ∙ module_of_shown here.slot before
+      module_before : module_shown v ≡ module_in before
+      module_before = ap module_shown here.is ∙ module_of_shown here.slot before
 
-    module_behind : module_shown w ≡ module_in behind
-    module_behind = ap module_shown there.is ∙ module_of_shown there.slot behind
+      module_behind : module_shown w ≡ module_in behind
+      module_behind = ap module_shown there.is ∙ module_of_shown there.slot behind
 
-    slot_before : v.slot ≡ here.slot
-    slot_before = ap (λ (x : Shown). x.slot) here.is ∙ slot_of_shown here.slot before
+      slot_before : v.slot ≡ here.slot
+      slot_before = ap (λ (x : Shown). x.slot) here.is ∙ slot_of_shown here.slot before
 
-    slot_behind : w.slot ≡ there.slot
-    slot_behind = ap (λ (x : Shown). x.slot) there.is ∙ slot_of_shown there.slot behind
+      slot_behind : w.slot ≡ there.slot
+      slot_behind = ap (λ (x : Shown). x.slot) there.is ∙ slot_of_shown there.slot behind
 
-    source_before : source (get tree) (module_in before) ≡ Some (source_in before)
-    source_before =
-        own_source (get tree) config all is_all i (module_in before) (source_in before)
-        (ap (λ xs. slice_get xs i) (sym modules_before) ∙ mapped_at (λ s. module_in (value_at old.graph s)) old.slots i here.slot here.at)
-        (ap (λ xs. slice_get xs i) (sym (shown.sources all is_all))
-        ∙ mapped_at (λ s. source_in (value_at old.graph s)) old.slots i here.slot here.at)
+      source_before : source (get tree) (module_in before) ≡ Some (source_in before)
+      source_before =
+          own_source (get tree) config all is_all i (module_in before) (source_in before)
+          (ap (λ xs. slice_get xs i) (sym modules_before) ∙ mapped_at (λ s. module_in (value_at old.graph s)) old.slots i here.slot here.at)
+          (ap (λ xs. slice_get xs i) (sym (shown.sources all is_all))
+          ∙ mapped_at (λ s. source_in (value_at old.graph s)) old.slots i here.slot here.at)
 
-    source_behind : source (get later) (module_in behind) ≡ Some (source_in behind)
-    source_behind =
-        own_source (get later) next_config other is_other j (module_in behind) (source_in behind)
-        (ap (λ xs. slice_get xs j) (sym modules_behind) ∙ mapped_at (λ s. module_in (value_at new.graph s)) new.slots j there.slot there.at)
-        (ap (λ xs. slice_get xs j) (sym sources_behind)
-        ∙ mapped_at (λ s. source_in (value_at new.graph s)) new.slots j there.slot there.at)
+      source_behind : source (get later) (module_in behind) ≡ Some (source_in behind)
+      source_behind =
+          own_source (get later) next_config other is_other j (module_in behind) (source_in behind)
+          (ap (λ xs. slice_get xs j) (sym modules_behind) ∙ mapped_at (λ s. module_in (value_at new.graph s)) new.slots j there.slot there.at)
+          (ap (λ xs. slice_get xs j) (sym sources_behind)
+          ∙ mapped_at (λ s. source_in (value_at new.graph s)) new.slots j there.slot there.at)
 
-    kept_so : module_shown v ≡ module_shown w → get tree v.path ≡ get later v.path → v.slot ≡ w.slot
-    kept_so same agree =
-        let modules : module_in before ≡ module_in behind = sym module_before ∙ (same ∙ module_behind) in
-        let path = ap (λ (m : Module). m.path) module_before in
-        let agree_so : get tree (module_in before).path ≡ get later (module_in before).path =
-        subst (λ p. get tree p ≡ get later p) path agree in
-        let sources = same_source (get tree) (get later) (module_in before) (module_in behind) (source_in before) (source_in behind)
-        source_before source_behind modules agree_so in
-        let alive = live_at old.graph old.slots i here.slot here.at next.linked.slots in
-        let alive_then = live_at new.graph new.slots j there.slot there.at repairs_so.linked.slots in
-        slot_before
-        ∙ (lasts.kept i j here.slot there.slot here.at there.at
-        (alike_of before behind alive.0 alive_then.0 alive.1 alive_then.1 modules sources)
-        ∙ sym slot_behind)
+      kept_so : module_shown v ≡ module_shown w → get tree v.path ≡ get later v.path → v.slot ≡ w.slot
+      kept_so same agree =
+          let modules : module_in before ≡ module_in behind = sym module_before ∙ (same ∙ module_behind) in
+          let path = ap (λ (m : Module). m.path) module_before in
+          let agree_so : get tree (module_in before).path ≡ get later (module_in before).path =
+          subst (λ p. get tree p ≡ get later p) path agree in
+          let sources = same_source (get tree) (get later) (module_in before) (module_in behind) (source_in before) (source_in behind)
+          source_before source_behind modules agree_so in
+          let alive = live_at old.graph old.slots i here.slot here.at next.linked.slots in
+          let alive_then = live_at new.graph new.slots j there.slot there.at repairs_so.linked.slots in
+          slot_before
+          ∙ (lasts.kept i j here.slot there.slot here.at there.at
+          (alike_of before behind alive.0 alive_then.0 alive.1 alive_then.1 modules sources)
+          ∙ sym slot_behind)
 
-    apart_so : v.slot ≡ w.slot → module_shown v ≡ module_shown w
-    apart_so same =
-        let one : there.slot ≡ here.slot = sym slot_behind ∙ (sym same ∙ slot_before) in
-        let alike = lasts.one i j here.slot here.at (there.at ∙ ap Some one) in
-        module_before
-        ∙ (alike_module before (value_at new.graph here.slot) alike
-        ∙ (ap (λ s. module_in (value_at new.graph s)) (sym one) ∙ sym module_behind))
+      apart_so : v.slot ≡ w.slot → module_shown v ≡ module_shown w
+      apart_so same =
+          let one : there.slot ≡ here.slot = sym slot_behind ∙ (sym same ∙ slot_before) in
+          let alike = lasts.one i j here.slot here.at (there.at ∙ ap Some one) in
+          module_before
+          ∙ (alike_module before (value_at new.graph here.slot) alike
+          ∙ (ap (λ s. module_in (value_at new.graph s)) (sym one) ∙ sym module_behind))
 
-  keeps_slots : LastsBetween old new → KeepsSlots tree (showing_of old.graph old.slots) later (showing_of new.graph new.slots)
-  keeps_slots lasts = record {
-    kept = λ i j v w at there.
-        kept_so lasts i j v w (shown_there old.graph old.slots i v at) (shown_there new.graph new.slots j w there);
-    apart = λ i j v w at there.
-        apart_so lasts i j v w (shown_there old.graph old.slots i v at) (shown_there new.graph new.slots j w there);
-  }
+    keeps_slots : LastsBetween old new → KeepsSlots tree (showing_of old.graph old.slots) later (showing_of new.graph new.slots)
+    keeps_slots lasts = record {
+      kept = λ i j v w at there.
+          kept_so lasts i j v w (shown_there old.graph old.slots i v at) (shown_there new.graph new.slots j w there);
+      apart = λ i j v w at there.
+          apart_so lasts i j v w (shown_there old.graph old.slots i v at) (shown_there new.graph new.slots j w there);
+    }
 
-  slots_go : (plans.made + missing repairs_so.keeps < most_made) ⊎ (most_made ≤ plans.made + missing repairs_so.keeps) → SlotsGo old new tree later
-  slots_go (inl few) = inl (keeps_slots (slots_last plans.made old plans.links new next.linked plans.linked repairs_so few once_before once_behind))
-  slots_go (inr full) = inr (let within = missing_within in (omega (arith, within, full), repairs_so.renewed full))
+    slots_go : (plans.made + missing repairs_so.keeps < most_made) ⊎ (most_made ≤ plans.made + missing repairs_so.keeps) → SlotsGo old new tree later
+    slots_go (inl few) = inl (keeps_slots (slots_last plans.made old plans.links new next.linked plans.linked repairs_so few once_before once_behind))
+    slots_go (inr full) = inr record {
+      links = plans.links;
+      modules = repairs_so.copy.modules;
+      sources = repairs_so.copy.sources;
+      keeps = repairs_so.keeps;
+      matching = repairs_so.matching;
+      full = (let within = plans.within in omega (arith, within, full));
+      most = missing_within;
+      few = repairs_so.renewed full;
+    }
 
 pub next_showing : (now : Shows) (new : Links) (tree later : Tree) (config next_config : Config) → IsShownOf tree config now.links
     → (all : Gathered) → traced (get tree) config ≡ Ok all → (plans : PlansFor (λ P. P later) next_config now)

@@ -11,9 +11,11 @@
 --     PlansFor If config now          the plan is one for the trace of the tree of which `If` speaks; when it was made,
 --                                     there weren't more places
 --     IsNextShown old plan new        what is shown then
+--     IsRenewed old new               another graph is begun, since the places that were made and the modules that aren't
+--                                     there yet reach the most
 --     SlotsGo old new tree later      which slots stay between what is shown of two trees
 --     NoMorePlaces old new            no place was made, except those of a new graph
-use Rattle.std.specs.Prelude.{◌≡◌, ◌⊎◌, ◌≤◌, ◌+◌, ⊤, ℕ, length, Option, Some, None, Ok}
+use Rattle.std.specs.Prelude.{◌≡◌, ◌⊎◌, ◌≤◌, ◌+◌, ⊤, ℕ, List, length, Option, Some, None, Ok}
 use Rattle.std.specs.FinMap.{get}
 use Rattle.tree_spec.specs.Limits.{limit_number}
 use Rattle.tree_spec.specs.Trees.{Tree}
@@ -23,6 +25,8 @@ use Rattle.trace_spec.specs.Modules.{Config}
 use Rattle.trace_spec.specs.Traces.{traced}
 use Rattle.module_graph.specs.Graphs.{AreModules}
 use Rattle.trace_graph.specs.Links.{Links, IsLinked, modules_of, sources_of, targets_of}
+use Rattle.slot_arena.specs.declared.slot.Slot.{Slot}
+use Rattle.graph_repair.specs.Matching.{missing, IsMatching}
 use Rattle.graph_repair.specs.Plans.{IsPlanned}
 use Rattle.request_trace.specs.Showing as tracing
 use Rattle.request_trace.specs.Showing.{Traced}
@@ -89,8 +93,18 @@ pub record IsNextShown (old : Links) (plan : Plan) (new : Links) : Type 0 where
 abbrev pub NoMorePlaces : Links → Links → Type 0
 NoMorePlaces old new = (length new.graph ≡ length old.graph) ⊎ (length new.graph ≤ made_at_once)
 
--- own: no slot stands for two modules, unless another graph was begun, since the places of this one may reach the most
+pub record IsRenewed (old new : Links) : Type 0 where
+  pub links : Links
+  pub modules : modules_of new ≡ modules_of links
+  pub sources : sources_of new ≡ sources_of links
+  pub keeps : List (Option Slot)
+  pub matching : IsMatching old links keeps
+  pub full : most_made ≤ length old.graph + missing keeps
+  pub most : missing keeps ≤ limit_number Modules
+  pub few : length new.graph ≤ made_at_once
+
+-- own: no slot stands for two modules, unless another graph is begun
 abbrev pub SlotsGo : Links → Links → Tree → Tree → Type 0
 SlotsGo old new tree later =
     KeepsSlots tree (showing_of old.graph old.slots) later (showing_of new.graph new.slots)
-    ⊎ ((most_made ≤ length old.graph + limit_number Modules) × (length new.graph ≤ made_at_once))
+    ⊎ IsRenewed old new

@@ -219,7 +219,7 @@ module _ (before after : FolderState) (old new : Session) (edit : List Change) (
 
         goes : SlotsGo (shown_in new) (shown_in closed) state.tree next.tree → GraphGoes state next view.display (display_of closed)
         goes (inl keeps) = goes_on (subst (λ (showing : List Shown). KeepsSlots state.tree showing next.tree (showing_in closed)) same_before keeps)
-        goes (inr anew) = (let full = anew.0 in let fewer = places in begins_anew (omega (arith, full, fewer)) anew.1)
+        goes (inr anew) = (let full = anew.full in let most = anew.most in let fewer = places in begins_anew (omega (arith, full, most, fewer)) anew.few)
 
     shows_next : (tree : Tree) (state next : SessionState) → IsSessionOf tree new state → (pending : IsPendingOf tree new next) → IsSessionOf tree closed next → ShowsNext state next view.display (display_of closed)
     shows_next tree state next stands pending later = record {

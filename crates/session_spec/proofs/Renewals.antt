@@ -1,9 +1,9 @@
 -- How seldom a session begins another graph.
-use Rattle.std.proofs.Common.{◌≡◌, ◌≤◌, ◌++◌, ◌∷◌, [], ℕ, List, length, Bool, true, false, refl, sym, subst, arith}
+use Rattle.std.proofs.Common.{◌≡◌, ◌≤◌, ◌++◌, ◌∷◌, [], ℕ, List, length, Bool, true, false, refl, sym, ap, subst, arith}
 use Rattle.std.specs.Prelude.{◌+◌, ◌*◌}
 use Rattle.session_spec.specs.declared.Change.{Change}
 use Rattle.session_spec.specs.Laws.{RenewalsAreRare}
-use Rattle.session_spec.specs.SessionDoings.{Display, GraphGoes, goes_on, begins_anew, DoesEdit, DoesEdit as does_edit, is_anew, anew_at, Done, Does, begun, edits, collects, shows_it, anew_of, IsOpening}
+use Rattle.session_spec.specs.SessionDoings.{Display, GraphGoes, goes_on, begins_anew, DoesEdit, DoesEdit as does_edit, is_anew, anew_at, Done, Does, begun, edits, collects, shows_it, anew_of, MayShow, MayShow as may_show, EditsDo, stands, stops, shown_anew, anew_to_end, IsOpening}
 use Rattle.session_spec.specs.SessionStates.{SessionState}
 use Rattle.session_spec.specs.Showings.{Shown, made_at_once}
 use Rattle.session_spec.specs.Talks.{Standing}
@@ -106,8 +106,27 @@ bounded first input opened is _ _ _ (edits at text so_far edit rest next line sp
 bounded first input opened is _ _ _ (collects at text done held rest goes e) = bounded first input opened is at text done goes
 bounded first input opened is _ _ _ (shows_it at text done rest goes e) = bounded first input opened is at text done goes
 
+-- the edit to which nothing was replied
+append_none : (anew : List Bool) → anew ++ [] ≡ anew
+append_none [] = refl
+append_none (one ∷ anew) = ap (λ more. one ∷ more) (append_none anew)
+
+spaced_by : (state : SessionState) (edit : List Change) (before : Display) (showings : List (List Shown)) (displays : MayShow state edit before showings) (anew : List Bool)
+    → IsBounded before.made anew → Spaced 200000 0 (anew ++ shown_anew state edit before showings displays)
+spaced_by state edit before _ may_show.nothing anew is = subst (Spaced 200000 0) (sym (append_none anew)) is.spaced
+spaced_by state edit before _ (may_show.accepted next line after _ displays) anew is =
+    (bounded_then before.made after.made anew (is_anew state next before after displays.graph) is
+    (few_by state next before after displays.graph displays.few)).spaced
+
+spaced_to_end : (first : SessionState) (input : List ℕ) (opened : Done) → IsOpening first opened → (text : List ℕ) (spent : ℕ) (showings : List (List Shown))
+    (does : EditsDo first input opened text spent showings) → Spaced 200000 0 (anew_to_end first input opened text spent showings does)
+spaced_to_end first input opened is _ _ _ (stands at text done goes) = (bounded first input opened is at text done goes).spaced
+spaced_to_end first input opened is _ _ _ (stops at text done edit rest spent showings goes e frugal displays) =
+    spaced_by at.state edit done.display showings displays (anew_of first input opened at text done goes)
+    (bounded first input opened is at text done goes)
+
 pub renewals_are_rare : RenewalsAreRare
-renewals_are_rare first input opened at text done is does =
-    let anew = anew_of first input opened at text done does in
-    let spaced = (bounded first input opened is at text done does).spaced in
+renewals_are_rare first input opened text spent showings is does =
+    let anew = anew_to_end first input opened text spent showings does in
+    let spaced = spaced_to_end first input opened is text spent showings does in
     record { first = λ front back e. first_of 200000 anew front back spaced e; between = λ front middle back e. between_of 200000 anew front middle back spaced e }

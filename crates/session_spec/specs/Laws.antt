@@ -17,7 +17,7 @@ use Rattle.session_spec.specs.Conversations.{Answers, ends, refuses, stops, end_
 use Rattle.session_spec.specs.EditFaults.{CanRefuseEdit}
 use Rattle.session_spec.specs.Edits.{Draft, can_put, put_file, edited, then_edited}
 use Rattle.session_spec.specs.Replies.{IsRefused, Replies, IsAccepted, Leads, AllAccepted}
-use Rattle.session_spec.specs.SessionDoings.{Done, Does, anew_of, IsOpening}
+use Rattle.session_spec.specs.SessionDoings.{Done, Does, EditsDo, anew_to_end, IsOpening}
 use Rattle.session_spec.specs.SessionLooks.{IsTried, IsSessionLook}
 use Rattle.session_spec.specs.Openings.{OpensAt, CanOpen}
 use Rattle.session_spec.specs.SessionPromises.{SessionPromises}
@@ -231,9 +231,9 @@ pub record AreRare (some : ℕ) (anew : List Bool) : Type 0 where
 -- among any 200,000 edits in a row another graph is begun at one at most, and at none of the first 200,000
 abbrev pub RenewalsAreRare : Type 0
 RenewalsAreRare =
-    (first : SessionState) (input : List ℕ) (opened : Done) (at : Standing) (text : List ℕ) (done : Done)
-    → IsOpening first opened → (does : Does first input opened at text done)
-    → AreRare 200000 (anew_of first input opened at text done does)
+    (first : SessionState) (input : List ℕ) (opened : Done) (text : List ℕ) (spent : ℕ) (showings : List (List Shown))
+    → IsOpening first opened → (does : EditsDo first input opened text spent showings)
+    → AreRare 200000 (anew_to_end first input opened text spent showings does)
 
 -- own: some text and status
 pub record HasSession (tree : Tree) (input : List ℕ) : Type 0 where

@@ -14,6 +14,7 @@
 --                                     another
 --     EditsDo first input opened text spent showings          so it is somewhere, or while an edit is made to which the
 --                                     input comes
+--     anew_to_end first input opened text spent showings does the same of all edits, the one with it that is made then
 --     IsOpening first opened          what is shown at the opening
 --     SessionDoes tree taken before text after showings       a session on this tree that said this took its steps for
 --                                     the opening and these edits, as far as the limit allows, and showed this
@@ -140,6 +141,20 @@ pub data EditsDo (first : SessionState) (input : List ℕ) (opened : Done) :
       (showings : List (List Shown)) → Does first input opened at text done → turn_of at ≡ makes edit rest
       → IsFrugal at.state edit done.spent spent → MayShow at.state edit done.display showings
       → EditsDo first input opened text spent (done.showings ++ showings)
+
+abbrev pub shown_anew :
+    (state : SessionState) (edit : List Change) (before : Display) (showings : List (List Shown))
+    → MayShow state edit before showings → List Bool
+shown_anew state edit before _ nothing = []
+shown_anew state edit before _ (accepted next line after is displays) =
+    is_anew state next before after displays.graph ∷ []
+
+abbrev pub anew_to_end :
+    (first : SessionState) (input : List ℕ) (opened : Done) (text : List ℕ) (spent : ℕ) (showings : List (List Shown))
+    → EditsDo first input opened text spent showings → List Bool
+anew_to_end first input opened _ _ _ (stands at text done goes) = anew_of first input opened at text done goes
+anew_to_end first input opened _ _ _ (stops at text done edit rest spent showings goes is frugal displays) =
+    anew_of first input opened at text done goes ++ shown_anew at.state edit done.display showings displays
 
 -- ---- a whole session
 
