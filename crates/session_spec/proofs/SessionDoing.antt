@@ -1,5 +1,5 @@
 -- What a session does at the lines of an input, however much comes behind them.
-use Rattle.std.proofs.Common.{◌≤◌, ◌++◌, [], ℕ, List, length, Option, None, sym, subst, arith}
+use Rattle.std.proofs.Common.{◌≤◌, ◌++◌, [], ℕ, List, length, Option, None, sym, subst}
 use Rattle.std.proofs.lemmas.List.{append-nil}
 use Rattle.std.specs.Prelude.{take, IfSome}
 use Rattle.tree_spec.specs.Limits.{limit_number}
