@@ -58,9 +58,9 @@ def measure_edits(folder, label, module, record, slack, tries):
                   f"{opening.times()}, at most {0.1 * slack:g} of it and {25 * slack} ms")
     path, texts = module
     few, many = (held(folder, "edits", [put(path, texts[i % 2]) for i in range(edits)], 1) for edits in (FEW, MANY))
-    bench.say(many.memory <= few.memory + (MANY - FEW) * max(map(len, texts)) + slack * bench.MIB,
+    bench.say(many.memory <= few.memory + (MANY - FEW) * max(map(len, texts)) + 2 * slack * bench.MIB,
               f"the same, behind {MANY} edits of {path}: {many.memory / bench.MIB:.1f} MiB, behind {FEW} "
-              f"{few.memory / bench.MIB:.1f}, {opening.memory / bench.MIB:.1f} before, at most what they put and {slack} MiB more")
+              f"{few.memory / bench.MIB:.1f}, {opening.memory / bench.MIB:.1f} before, at most what they put and {2 * slack} MiB more")
 
 
 def measure_puts(work, files, slack, tries):
