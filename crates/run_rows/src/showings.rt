@@ -1,9 +1,10 @@
 //! What a watch is shown of a session, as rows tell it.
 
 use module_graph::{ModuleView, Slot, View};
-use session_watch::Watch;
+use session_watch::{MemWatch, Watch};
 use shared_types::Memory;
 use std::alloc::Global;
+use tree_model::Path;
 
 /// The showings of a run. Each slot has a number, by the order in which slots are shown first: in trace order, and one
 /// showing after another.
@@ -17,6 +18,8 @@ pub struct Showings {
     slots: Vec<Slot>,
     /// The modules that were shown last.
     last: Vec<Numbered>,
+    /// What a watch in memory keeps of the same.
+    memory: MemWatch,
 }
 
 /// A module that is shown.
@@ -24,6 +27,7 @@ pub struct Showings {
 struct Numbered {
     slot: Slot,
     number: usize,
+    path: Path,
     /// Its path and suffix.
     name: String,
     source: Vec<u8>,
@@ -39,6 +43,7 @@ impl Showings {
             texts: Vec::new(alloc),
             slots: Vec::new(alloc),
             last: Vec::new(alloc),
+            memory: MemWatch::new(),
         }
     }
 
@@ -98,6 +103,7 @@ impl Showings {
         Ok(Numbered {
             slot,
             number: self.numbered(slot, changed)?,
+            path: module.path().copy(alloc)?,
             name,
             source: Vec::from_slice(alloc, module.source())?,
             is_changed: changed.is_some(),
@@ -174,6 +180,43 @@ impl Showings {
         }
         Ok(text)
     }
+
+    // Whether the watch in memory tells of a path the slot of the first of these modules there, and none where there is none.
+    fn agrees(&self, path: &Path, modules: &[Numbered]) -> bool {
+        let shown = self.memory.len().saturating_sub(1);
+        match (self.memory.slot(shown, path), slot_at(modules, path)) {
+            (Some(kept), Some(slot)) => kept == slot,
+            (None, None) => true,
+            _ => false,
+        }
+    }
+
+    // A line for each of these paths of which the watch in memory tells another slot than was shown.
+    fn push_other_slots(
+        &self,
+        told: &[Numbered],
+        modules: &[Numbered],
+        text: &mut String,
+    ) -> Result<(), Memory> {
+        for module in told {
+            if !self.agrees(&module.path, modules) {
+                for part in ["another slot in memory: ", module.path.as_str(), "\n"] {
+                    text.push_str(part)?;
+                }
+            }
+        }
+        Ok(())
+    }
+}
+
+// The slot of the first of these modules at a path.
+fn slot_at(modules: &[Numbered], path: &Path) -> Option<Slot> {
+    for module in modules {
+        if module.path == *path {
+            return Some(module.slot);
+        }
+    }
+    None
 }
 
 impl Watch for Showings {
@@ -186,7 +229,10 @@ impl Watch for Showings {
             return Ok(());
         }
         let modules = self.take_all(alloc, slots, &view)?;
-        let text = self.text_of(alloc, modules.as_slice(), &view)?;
+        let mut text = self.text_of(alloc, modules.as_slice(), &view)?;
+        self.memory.shown(alloc, slots, view)?;
+        self.push_other_slots(modules.as_slice(), modules.as_slice(), &mut text)?;
+        self.push_other_slots(self.last.as_slice(), modules.as_slice(), &mut text)?;
         self.texts.push(text)?;
         self.last = modules;
         Ok(())
