@@ -220,6 +220,7 @@ impl Watch for Showings {
         self.memory.shown(alloc, slots, view)?;
         self.modules.push(modules)?;
         self.push_all_others(alloc, &mut text)?;
-        self.texts.push(text)
+        self.texts.push(text)?;
+        Ok(())
     }
 }
