@@ -74,8 +74,10 @@ def edits_in(told):
         elif kind == 'commit':
             edits.append((open_edit, False))
             open_edit = None
+        elif open_edit is not None:
+            open_edit.append((kind, name, content))
         elif kind != 'map':
-            edits.append(([(kind, name, content)], True)) if open_edit is None else open_edit.append((kind, name, content))
+            edits.append(([(kind, name, content)], True))
     return edits
 
 
