@@ -8,7 +8,7 @@ use Rattle.session_run.proofs.edits.accept.Goals as goal
 
 pub returns-in-Ok-clause-says : goal.returns-in-Ok-clause-says
 returns-in-Ok-clause-says g c =
-    shown (watch_shown c.commit.new.self c.slots.result.now c.slots.ensures.slots _ c.view.ensures _ _ c.in-Ok.ensures.sees)
+    shown (watch_shown c.commit.new.self c.slots.result.now c.slots.ensures.slots _ c.view.ensures.graph _ _ c.in-Ok.ensures.sees)
     (c.said.ensures (accepted_line (shown_counts c.commit.new.self))
     (subst (λ counts. IfOk c.done_line.result (λ line. line.items ≡ accepted_line counts)) c.counts-counts.ensures c.done_line.ensures))
 
@@ -16,4 +16,4 @@ pub returns-in-Err-clause-says : goal.returns-in-Err-clause-says
 returns-in-Err-clause-says g c = unshown c.in-Err.ensures.stays refl
 
 pub shown-requires : goal.shown-requires
-shown-requires g c = record { live = watch_live c.commit.new.self c.slots.result.now c.slots.ensures.slots _ c.view.ensures c.slots.ensures.live }
+shown-requires g c = record { live = watch_live c.commit.new.self c.slots.result.now c.slots.ensures.slots _ c.view.ensures.graph c.slots.ensures.live }

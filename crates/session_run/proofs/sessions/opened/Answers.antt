@@ -5,7 +5,7 @@ use Rattle.session_run.proofs.EditLemmas.{watch_live, watch_shown}
 use Rattle.session_run.proofs.sessions.opened.Goals as goal
 
 pub shown-requires : goal.shown-requires
-shown-requires g c = record { live = watch_live c.args.session c.slots.result.now c.slots.ensures.slots _ c.view.ensures c.slots.ensures.live }
+shown-requires g c = record { live = watch_live c.args.session c.slots.result.now c.slots.ensures.slots _ c.view.ensures.graph c.slots.ensures.live }
 
 pub returns-in-Err-clause-ends : goal.returns-in-Err-clause-ends
 returns-in-Err-clause-ends g c =
@@ -14,4 +14,4 @@ returns-in-Err-clause-ends g c =
 
 pub returns-in-Ok-clause-ends : goal.returns-in-Ok-clause-ends
 returns-in-Ok-clause-ends g c =
-    shown (g.W.Watch.seen c.shown.new.self) (watch_shown c.args.session c.slots.result.now c.slots.ensures.slots _ c.view.ensures _ _ c.in-Ok.ensures.sees) c.shown-in-Ok.ensures.ends
+    shown (g.W.Watch.seen c.shown.new.self) (watch_shown c.args.session c.slots.result.now c.slots.ensures.slots _ c.view.ensures.graph _ _ c.in-Ok.ensures.sees) c.shown-in-Ok.ensures.ends
