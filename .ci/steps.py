@@ -5,9 +5,12 @@ A step is a call of `outline`, which reads a module's text, or of `resolve`, whi
 itself. The program counts them in ghosts alone, so gdb counts how often a running one comes there. The bound is worked out from
 the trees (asked.py): an opening may take a step for each question of its trace, up to its refusal; an edit one for each that is
 fresh, which wasn't asked for the map before, or looked where another tree is now; an edit that can't be made none. Replies must
-be those that the trace foresees. Each session is run anew with one edit more, so that the steps of each edit are known.
+be those that the trace foresees. Each session is run anew with one edit more, so that the steps of each edit are known. Sessions
+of crates/run_rows/data are held to bounds that stand there (session_rows.py), which are those of the trace where it foresees them.
 """
 import argparse
+import base64
+import hashlib
 import os
 import pathlib
 import random
@@ -18,6 +21,7 @@ import sys
 import tempfile
 
 from asked import Trace
+from session_rows import replies, rows
 from sessions import ROOT, TEXTS, Refused, Site, changed, random_change, random_site
 
 STEPS = re.compile(r'es_module_parser::reading::outline::<|node_resolve::esm_resolve::resolve::<')
@@ -57,6 +61,18 @@ class Counter:
             raise SystemExit(f'steps: gdb says {ran}')
         return counts, said.read_text().splitlines()
 
+    def each(self, folder, inputs):
+        """how many steps each part of a session takes, and what it says"""
+        counts, said = self.steps(folder, [it + b'end\n' for it in inputs])
+        return [count - before for count, before in zip(counts, [0, *counts])], said
+
+
+def told_text(edit, alone):
+    """the lines that tell an edit"""
+    text = b''.join(f'{kind} {name}'.encode() + (b'' if content is None else b' %d\n' % len(content) + content) + b'\n'
+                    for kind, name, content in edit)
+    return text if alone else b'begin\n' + text + b'commit\n'
+
 
 class Told:
     """A session as it is foreseen: for the opening and each edit what is told, the line, and how many steps it may take, and how
@@ -68,9 +84,7 @@ class Told:
         self.most, self.anew, self.fewest = [len(self.before.asked)], [len(self.before.asked)], len(self.before.looks)
 
     def tell(self, edit, alone):
-        text = b''.join(f'{kind} {name}'.encode() + (b'' if content is None else b' %d\n' % len(content) + content) + b'\n'
-                        for kind, name, content in edit)
-        self.inputs.append(self.inputs[-1] + (text if alone else b'begin\n' + text + b'commit\n'))
+        self.inputs.append(self.inputs[-1] + told_text(edit, alone))
         self.edits.append(edit)
         try:
             trace = Trace(changed(self.before.site, edit))
@@ -89,15 +103,25 @@ class Told:
     def wrong(self, counter, room):
         """what is wrong with it, where something is; the steps of its opening and edits"""
         self.start.write(room / 'site')
-        counts, said = counter.steps(room, [it + b'end\n' for it in self.inputs])
-        taken = [count - before for count, before in zip(counts, [0, *counts])]
-        foreseen = self.lines + ['end'] * self.before.is_right
-        if [re.sub(r', \d+ mappings$', '', it) for it in said] != foreseen:
-            return f'{said} said, {foreseen} foreseen', taken
+        taken, said = counter.each(room, self.inputs)
+        if without_mappings(said) != self.foreseen():
+            return f'{said} said, {self.foreseen()} foreseen', taken
         if self.before.is_right and taken[0] < self.fewest:
             return f'{taken[0]} steps for {self.fewest} questions: gdb misses some', taken
-        names = ['the opening', *(f'edit {number + 1}' for number in range(len(self.edits)))]
-        return ', '.join(f'{name}: {count} steps, {most} fresh' for name, count, most in zip(names, taken, self.most) if count > most), taken
+        return too_many(taken, self.most), taken
+
+    def foreseen(self):
+        return self.lines + ['end'] * self.before.is_right
+
+
+def without_mappings(lines):
+    return [re.sub(r', \d+ mappings$', '', it) for it in lines]
+
+
+def too_many(taken, most):
+    """the opening and the edits that take more steps than they may"""
+    names = ['the opening', *(f'edit {number}' for number in range(1, len(most)))]
+    return ', '.join(f'{name}: {count} steps, {bound} fresh' for name, count, bound in zip(names, taken, most) if count > bound)
 
 
 def worth(trace, before=None):
@@ -150,10 +174,59 @@ def named_sessions():
     nearer = Told(site_of({'/lib/m.mjs': 'import "c";', '/node_modules/c/package.json': '{"exports":"./c.mjs"}', '/node_modules/c/c.mjs': ''},
                           './lib/m.mjs'))
     nearer.tell([('put', '/lib/node_modules/c/package.json', b'{"exports":"./d.mjs"}'), ('put', '/lib/node_modules/c/d.mjs', b'')], False)
+    yield 'a nearer package', nearer, [4, 2]
+    yield 'one file of 200 packages', one_file_of_many(), [1025, 2]
+
+
+def one_file_of_many():
     many = Told(packages(200))
     many.tell([('put', '/node_modules/p7/x/a.js', b'export{};')], True)
-    yield 'a nearer package', nearer, [4, 2]
-    yield 'one file of 200 packages', many, [1025, 2]
+    return many
+
+
+def other_lines(program, told, room):
+    """the lines of the map behind a session's edit that its map before it has otherwise"""
+    told.start.write(room / 'site')
+    said = subprocess.run([program, 'session'], cwd=room / 'site', input=b'map\n' + told.inputs[-1] + b'map\nend\n',
+                          stdout=subprocess.PIPE, check=True).stdout
+    before, behind = (it.decode().split('\n') for it in replies(said)[1])
+    return [line for one, line in zip(before, behind) if one != line] if len(before) == len(behind) else behind
+
+
+def wrong_map(program, room):
+    """what is wrong with the map behind an edit of one file of many packages, where something is"""
+    found = other_lines(program, one_file_of_many(), room)
+    digest = base64.b64encode(hashlib.sha384(b'export{};').digest()).decode()
+    wanted = [f'    "https://app.test/node_modules/p7/x/a.js": "sha384-{digest}"']
+    return '' if [it.rstrip(',') for it in found] == wanted else f'{found} of the map, not {wanted}'
+
+
+def wrong_row(counter, row, room):
+    """what is wrong with a session of the row files, where something is"""
+    if row.is_plain():
+        told = Told(row.site)
+        for edit in row.edits:
+            told.tell(*edit)
+        if (told.most, told.foreseen()) != (row.bounds, without_mappings(row.lines)):
+            return f'{told.most} fresh and {told.foreseen()} foreseen, {row.bounds} and {row.lines} there'
+    row.write(room / 'site')
+    inputs = [b'']
+    for edit in row.edits:
+        inputs.append(inputs[-1] + told_text(*edit))
+    taken, said = counter.each(room, inputs)
+    return too_many(taken, row.bounds) if said == row.lines else f'{said} said, {row.lines} there'
+
+
+def tell_rows(counter, room):
+    """what is wrong with the first session of the row files with which something is, and how many there are"""
+    tried = list(rows())
+    for row in tried:
+        wrong = wrong_row(counter, row, room)
+        if wrong:
+            return f'{row.name}: {wrong}'
+    edits, plain = sum(len(it.edits) for it in tried), sum(it.is_plain() for it in tried)
+    print(f'{len(tried)} sessions of {len({it.name for it in tried})} rows, {plain} of them foreseen, {edits} edits')
+    return '' if tried else 'no rows'
 
 
 def main():
@@ -170,6 +243,10 @@ def main():
             if wrong or any(it > most for it, most in zip(taken, stated)):
                 print(f'{name}: {taken} steps, {stated} stated; {wrong}')
                 return 1
+        wrong = wrong_map(counter.program, pathlib.Path(room)) or tell_rows(counter, pathlib.Path(room))
+        if wrong:
+            print(wrong)
+            return 1
         for number in range(given.sessions):
             told = random_session(random.Random(given.seed * 1000003 + number))
             wrong, taken = told.wrong(counter, pathlib.Path(room))

@@ -1,9 +1,10 @@
 //! What a watch is shown of a session, as rows tell it.
 
 use module_graph::{ModuleView, Slot, View};
-use session_watch::Watch;
+use session_watch::{MemWatch, Watch};
 use shared_types::Memory;
 use std::alloc::Global;
+use tree_model::Path;
 
 /// The showings of a run. Each slot has a number, by the order in which slots are shown first: in trace order, and one
 /// showing after another.
@@ -15,20 +16,19 @@ pub struct Showings {
     texts: Vec<String>,
     /// The slots by their numbers, from 1.
     slots: Vec<Slot>,
-    /// The modules that were shown last.
-    last: Vec<Numbered>,
+    /// The modules of each showing.
+    modules: Vec<Vec<Placed>>,
+    /// The paths of them all, each once.
+    paths: Vec<Path>,
+    /// What a watch in memory keeps of the same.
+    memory: MemWatch,
 }
 
-/// A module that is shown.
+/// Where a module stands, and under which slot it is shown.
 #[derive(Drop)]
-struct Numbered {
+struct Placed {
     slot: Slot,
-    number: usize,
-    /// Its path and suffix.
-    name: String,
-    source: Vec<u8>,
-    /// Whether it was shown last with other bytes.
-    is_changed: bool,
+    path: Path,
 }
 
 impl Showings {
@@ -38,21 +38,14 @@ impl Showings {
             is_told,
             texts: Vec::new(alloc),
             slots: Vec::new(alloc),
-            last: Vec::new(alloc),
+            modules: Vec::new(alloc),
+            paths: Vec::new(alloc),
+            memory: MemWatch::new(),
         }
     }
 
     pub fn texts(&self) -> &[String] {
         self.texts.as_slice()
-    }
-
-    fn module_shown_last(&self, name: &str) -> Option<&Numbered> {
-        for module in self.last.as_slice() {
-            if module.name.as_str() == name {
-                return Some(module);
-            }
-        }
-        None
     }
 
     // The number of a slot, where it was shown.
@@ -67,40 +60,26 @@ impl Showings {
         None
     }
 
-    // The number of a slot that is shown. One that wasn't shown before has the next number; or that of its module, where
-    // this has other bytes now and so may have another slot.
-    fn numbered(&mut self, slot: Slot, changed: Option<usize>) -> Result<usize, Memory> {
-        if let Some(number) = self.number_of(slot) {
-            return Ok(number);
-        }
-        if let Some(number) = changed {
-            if let Some(place) = self.slots.get_mut(number.saturating_sub(1)) {
-                *place = slot;
-                return Ok(number);
+    fn is_known(&self, path: &Path) -> bool {
+        for other in self.paths.as_slice() {
+            if *other == *path {
+                return true;
             }
         }
-        self.slots.push(slot)?;
-        Ok(self.slots.len())
+        false
     }
 
-    fn take(
-        &mut self,
-        alloc: Global,
-        slot: Slot,
-        module: &ModuleView<'_>,
-    ) -> Result<Numbered, Memory> {
-        let mut name = String::from_str(alloc, module.path().as_str())?;
-        name.push_str(module.suffix())?;
-        let changed = match self.module_shown_last(name.as_str()) {
-            Some(last) if last.source.as_slice() != module.source() => Some(last.number),
-            _ => None,
-        };
-        Ok(Numbered {
+    // A slot that wasn't shown before has the next number.
+    fn take(&mut self, alloc: Global, slot: Slot, path: &Path) -> Result<Placed, Memory> {
+        if self.number_of(slot).is_none() {
+            self.slots.push(slot)?;
+        }
+        if !self.is_known(path) {
+            self.paths.push(path.copy(alloc)?)?;
+        }
+        Ok(Placed {
             slot,
-            number: self.numbered(slot, changed)?,
-            name,
-            source: Vec::from_slice(alloc, module.source())?,
-            is_changed: changed.is_some(),
+            path: path.copy(alloc)?,
         })
     }
 
@@ -109,32 +88,39 @@ impl Showings {
         alloc: Global,
         slots: &[Slot],
         view: &View<'_>,
-    ) -> Result<Vec<Numbered>, Memory> {
+    ) -> Result<Vec<Placed>, Memory> {
         let mut taken = Vec::new(alloc);
         for slot in slots {
             if let Some(module) = view.module(*slot) {
-                taken.push(self.take(alloc, *slot, &module)?)?;
+                taken.push(self.take(alloc, *slot, module.path())?)?;
             }
         }
         Ok(taken)
     }
 
-    // `NUMBER PATH -> NUMBER NUMBER ..`, with `?` behind the number of a module with other bytes.
+    fn text_of(&self, alloc: Global, slots: &[Slot], view: &View<'_>) -> Result<String, Memory> {
+        let mut text = String::new(alloc);
+        for slot in slots {
+            if let Some(module) = view.module(*slot) {
+                self.push_line(alloc, *slot, &module, &mut text)?;
+            }
+        }
+        Ok(text)
+    }
+
+    // `NUMBER PATH -> NUMBER NUMBER ..`
     fn push_line(
         &self,
         alloc: Global,
-        module: &Numbered,
-        view: &View<'_>,
+        slot: Slot,
+        module: &ModuleView<'_>,
         text: &mut String,
     ) -> Result<(), Memory> {
-        let number = format!(in alloc; "{}", module.number)?;
-        let mark = if module.is_changed { "? " } else { " " };
-        for part in [number.as_str(), mark, module.name.as_str()] {
+        self.push_number(alloc, Some(slot), text)?;
+        for part in [" ", module.path().as_str(), module.suffix()] {
             text.push_str(part)?;
         }
-        if let Some(module) = view.module(module.slot) {
-            self.push_targets(alloc, &module, text)?;
-        }
+        self.push_targets(alloc, module, text)?;
         text.push_str("\n")
     }
 
@@ -146,34 +132,78 @@ impl Showings {
     ) -> Result<(), Memory> {
         for index in 0..module.requests() {
             text.push_str(if index == 0 { " -> " } else { " " })?;
-            match self.target_of(module, index) {
-                None => text.push_str("none")?,
-                Some(number) => {
-                    let number = format!(in alloc; "{number}")?;
-                    text.push_str(number.as_str())?;
+            self.push_number(alloc, module.target(index), text)?;
+        }
+        Ok(())
+    }
+
+    // The number of a slot, where there is one and it was shown.
+    fn push_number(
+        &self,
+        alloc: Global,
+        slot: Option<Slot>,
+        text: &mut String,
+    ) -> Result<(), Memory> {
+        let number = match slot {
+            Some(slot) => self.number_of(slot),
+            None => None,
+        };
+        match number {
+            None => text.push_str("none"),
+            Some(number) => {
+                let number = format!(in alloc; "{number}")?;
+                text.push_str(number.as_str())
+            }
+        }
+    }
+
+    // Whether the watch in memory tells of a path, in the showing with this number, the slot of the first module there, and
+    // none where there is none.
+    fn agrees(&self, number: usize, path: &Path) -> bool {
+        let shown = match self.modules.get(number) {
+            Some(modules) => slot_at(modules.as_slice(), path),
+            None => None,
+        };
+        match (self.memory.slot(number, path), shown) {
+            (Some(kept), Some(slot)) => kept == slot,
+            (None, None) => true,
+            _ => false,
+        }
+    }
+
+    // A line for each path of which the watch in memory tells another slot in this showing than was shown.
+    fn push_others(&self, alloc: Global, number: usize, text: &mut String) -> Result<(), Memory> {
+        for path in self.paths.as_slice() {
+            if !self.agrees(number, path) {
+                let line = format!(in alloc; "another slot in memory of showing {number}: ")?;
+                for part in [line.as_str(), path.as_str(), "\n"] {
+                    text.push_str(part)?;
                 }
             }
         }
         Ok(())
     }
 
-    // The number of a request's target, where it is set and was shown.
-    fn target_of(&self, module: &ModuleView<'_>, index: usize) -> Option<usize> {
-        self.number_of(module.target(index)?)
-    }
-
-    fn text_of(
-        &self,
-        alloc: Global,
-        modules: &[Numbered],
-        view: &View<'_>,
-    ) -> Result<String, Memory> {
-        let mut text = String::new(alloc);
-        for module in modules {
-            self.push_line(alloc, module, view, &mut text)?;
+    // The watch in memory is asked for all that was shown so far, again: what is shown later changes none of it.
+    fn push_all_others(&self, alloc: Global, text: &mut String) -> Result<(), Memory> {
+        if self.memory.len() != self.modules.len() {
+            text.push_str("another number of showings in memory\n")?;
         }
-        Ok(text)
+        for number in 0..self.modules.len() {
+            self.push_others(alloc, number, text)?;
+        }
+        Ok(())
     }
+}
+
+// The slot of the first of these modules at a path.
+fn slot_at(modules: &[Placed], path: &Path) -> Option<Slot> {
+    for module in modules {
+        if module.path == *path {
+            return Some(module.slot);
+        }
+    }
+    None
 }
 
 impl Watch for Showings {
@@ -186,9 +216,11 @@ impl Watch for Showings {
             return Ok(());
         }
         let modules = self.take_all(alloc, slots, &view)?;
-        let text = self.text_of(alloc, modules.as_slice(), &view)?;
+        let mut text = self.text_of(alloc, slots, &view)?;
+        self.memory.shown(alloc, slots, view)?;
+        self.modules.push(modules)?;
+        self.push_all_others(alloc, &mut text)?;
         self.texts.push(text)?;
-        self.last = modules;
         Ok(())
     }
 }
