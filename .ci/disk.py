@@ -5,6 +5,7 @@ here: its map with digests by Python's hashlib, its project's file as it is docu
 what it was, or the whole new one.
 """
 import base64
+import collections
 import errno
 import hashlib
 import os
@@ -39,7 +40,9 @@ PROJECT = b'''{
 '''
 # The calls of the system that can fail or be the last one of a run.
 CALLS = 'openat,read,write,rename,renameat,renameat2,unlink,unlinkat,close,statx,newfstatat,lstat,stat,mkdir,mkdirat'
-counts = {'passed': 0, 'failed': 0, 'tries': 0}
+counts = {'passed': 0, 'failed': 0}
+# How runs ended that were harmed at a call of the system.
+endings = collections.Counter()
 
 
 def tell(name, *faults):
@@ -389,23 +392,35 @@ COPYING = Copying(('vendor', '/out/copies'), 'vendored 2 files\n', {'importmap.p
     b'out/copies/b.mjs': FILES['b.mjs']})
 
 
-def each_call(name, harm, judge, work):
-    """runs a command once for each call of the system, with harm done at this call"""
-    wrong, number, unharmed = [], 0, 0
-    while unharmed < 3:
-        number += 1
-        folder = KEPT / 'call'
-        shutil.rmtree(folder, ignore_errors=True)
-        folder.mkdir()
-        work.put(folder)
-        log = KEPT / 'log'
-        strace = ('strace', '-f', '-o', str(log), '-e', f'trace={CALLS}', '-e', f'inject={CALLS}:{harm}:when={number}')
-        ended, out, said = run(folder, *work.words, before=strace)
-        counts['tries'] += 1
-        harmed = 'INJECTED' in log.read_text(errors='replace') or '+++ killed' in log.read_text(errors='replace')
-        unharmed = 0 if harmed else unharmed + 1
-        wrong += [f'call {number}: {it}' for it in judge(work, folder, ended, out, said) if it]
-    tell(f'{work.words[0]}: {name}', *wrong[:5])
+def traced(work, *harm):
+    """a new folder in which a command was run with harm done at a call, how it ended, and the trace of its calls"""
+    folder = KEPT / 'call'
+    shutil.rmtree(folder, ignore_errors=True)
+    folder.mkdir()
+    work.put(folder)
+    log = KEPT / 'log'
+    ended = run(folder, *work.words, before=('strace', '-f', '-o', str(log), '-e', f'trace={CALLS}', *harm))
+    return folder, ended, log.read_text(errors='replace')
+
+
+def calls_of(work):
+    """the calls of a run without harm, those of the system's loader too: each by its name and its number among those of that name"""
+    seen = collections.Counter()
+    for name in re.findall(r'^\d+ +(\w+)\(', traced(work)[2], re.M):
+        seen[name] += 1
+        yield name, seen[name]
+
+
+def each_call(kind, harm, judge, work):
+    """runs a command once for each of its calls of the system, with harm done at this one alone"""
+    wrong = []
+    for name, number in list(calls_of(work)):
+        folder, (ended, out, said), log = traced(work, '-e', f'inject={name}:{harm}:when={number}')
+        endings['killed' if judge is killed else f'status {ended}'] += 1
+        harmed = '+++ killed' in log if judge is killed else log.count('INJECTED') == 1
+        faults = ['' if harmed else 'no harm is done', *judge(work, folder, ended, out, said)]
+        wrong += [f'{name} {number}: {it}' for it in faults if it]
+    tell(f'{work.words[0]}: {kind}', *wrong[:5])
 
 
 def killed(work, folder, ended, out, said):
@@ -453,7 +468,8 @@ def main():
     for part in (disks, rights, names, special, streams, talks, growing, calls, outside):
         part()
     shutil.rmtree(KEPT)
-    print(f'{counts["tries"]} runs harmed at a call of the system')
+    told = ', '.join(f'{count} {ending}' for ending, count in sorted(endings.items()))
+    print(f'{endings.total()} runs harmed at a call of the system: {told}')
     print(f'{counts["passed"]} passed, {counts["failed"]} failed')
     return counts['failed'] > 0
 
