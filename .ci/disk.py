@@ -404,7 +404,7 @@ def traced(work, *harm):
 
 
 def calls_of(work):
-    """the calls of a run without harm, also those of the system's loader: each by its name and its number among those of the name"""
+    """the calls of a run without harm, also those of the system's loader, each by its name and its number among those of it"""
     seen = collections.Counter()
     for name in re.findall(r'^\d+ +(\w+)\(', traced(work)[2], re.M):
         seen[name] += 1
