@@ -10,6 +10,7 @@ import sys
 
 import bench
 import maps
+import sessions
 
 INSTALLED = "/usr/share/nodejs"
 LINK = [bench.PROGRAM, "link", "--base", maps.BASE]
@@ -104,6 +105,29 @@ def measure(work):
                                                  f"{run.processor / sums.processor:.2f} of {sums.processor:.3f} s")
     bench.against_peer("esbuild", run, esbuild, 0.2, label)
     bench.against_peer("Node with es-module-lexer", run, node, 0.1, label)
+    measure_edits(site, label)
+
+
+def measure_edits(site, label):
+    """Edits of a session over the same: of the shortest module of a package, and of that package's record."""
+    records = {os.path.dirname(path): path for path in site.records}
+    path, folder = min(((path, package_of(path, records)) for path in site.paths if package_of(path, records)),
+                       key=lambda it: os.path.getsize(it[0]))
+    sessions.measure_edits(site.folder, label, edited(site, path), edited(site, records[folder]), 1, 3)
+
+
+def package_of(path, records):
+    """The nearest folder with a record above a file; none where it is in none."""
+    while len(path) > 1 and path not in records:
+        path = os.path.dirname(path)
+    return path if path in records else None
+
+
+def edited(site, path):
+    """A file's path in the site, and its text with a line end behind it and as it is."""
+    with open(path, "rb") as file:
+        text = file.read()
+    return path.removeprefix(site.folder), (text + b"\n", text)
 
 
 def main():

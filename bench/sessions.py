@@ -7,7 +7,10 @@ import trees
 
 FILE = 16 * bench.MIB
 SESSION = [bench.PROGRAM, "session"]
-EDITED = "/node_modules/p7/x/a.js"
+FEW, MANY = 10, 100
+EDITED = "/node_modules/p7/x/a.js", (b"export {};\n", b"export {};\n\n")
+FIELDS = b'"name":"p7","type":"module","exports":{".":"./index.js","./x/*":"./x/*.js"}'
+RECORD = "/node_modules/p7/package.json", (b"{" + FIELDS + b"}", b"{" + FIELDS + b',"version":"1"}')
 
 
 def put(path, content):
@@ -40,14 +43,24 @@ def measure_stated(work, count, slack, tries):
     bench.say(stated.seconds <= max(0.6 * slack * linked.seconds, bench.NOISE),
               f"measure {count}: {stated.times()}, {stated.seconds / linked.seconds:.2f} times as long as link on "
               f"disk, {linked.times()}, at most {0.6 * slack:g}")
-    opening = held(tree.folder, "opening", [], tries)
-    edits = 10
-    edited = held(tree.folder, "edits", [put(EDITED, b"export {};\n" * (1 + i % 2)) for i in range(edits)], tries)
-    cost = (edited.seconds - opening.seconds) / edits
-    bench.say(cost <= max(slack * opening.seconds, bench.NOISE),
-              f"an edit of one module of {count} packages: {cost:.3f} s, {cost / opening.seconds:.2f} of the opening, "
-              f"{opening.times()}, at most {slack:g}; {edited.memory / bench.MIB:.1f} MiB behind {edits} edits, "
-              f"{opening.memory / bench.MIB:.1f} MiB before")
+    measure_edits(tree.folder, f"{count} packages", EDITED, RECORD, slack, tries)
+
+
+def measure_edits(folder, label, module, record, slack, tries):
+    """An edit of a module and one of a package.json, each put again and again with other bytes, beside the opening; and the memory
+    behind many edits beside that behind few."""
+    opening = held(folder, "opening", [], tries)
+    for path, texts in (module, record):
+        edited = held(folder, "edits", [put(path, texts[i % 2]) for i in range(FEW)], tries)
+        cost = (edited.seconds - opening.seconds) / FEW
+        bench.say(cost <= min(0.1 * opening.seconds, 0.025) * slack,
+                  f"an edit of {path}, {label}: {1000 * cost:.1f} ms, {cost / opening.seconds:.3f} of the opening, "
+                  f"{opening.times()}, at most {0.1 * slack:g} of it and {25 * slack} ms")
+    path, texts = module
+    few, many = (held(folder, "edits", [put(path, texts[i % 2]) for i in range(edits)], 1) for edits in (FEW, MANY))
+    bench.say(many.memory <= few.memory + (MANY - FEW) * max(map(len, texts)) + 2 * slack * bench.MIB,
+              f"the same, behind {MANY} edits of {path}: {many.memory / bench.MIB:.1f} MiB, behind {FEW} "
+              f"{few.memory / bench.MIB:.1f}, {opening.memory / bench.MIB:.1f} before, at most what they put and {2 * slack} MiB more")
 
 
 def measure_puts(work, files, slack, tries):

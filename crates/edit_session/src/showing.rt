@@ -3,7 +3,7 @@ ghost use Rattle.generator_spec.specs.Generation.{PageIsFile};
 ghost use Rattle.generation.specs.Mapping.{MapsTrace};
 ghost use Rattle.graph_repair.specs.Plans.{shown};
 ghost use Rattle.graph_repair.specs.declared.parts.Plan as declared;
-ghost use Rattle.trace_graph.specs.Links.{IsLive};
+ghost use Rattle.trace_graph.specs.Links.{IsLinked, IsLive};
 ghost use Rattle.edit_session.specs.Shown.{KeepsShown, IsPlan, IsPlannedBy, IsNextShown, NoMorePlaces};
 
 use generation::{Generated, KeptMap, Stop, map_by};
@@ -87,7 +87,8 @@ impl Showing {
 
     /// The graph, to be looked at.
     pub(crate) fn view(&self) -> View<'_>
-        ensures { result ≡ self.now.links.graph }
+        ensures graph { result ≡ self.now.links.graph }
+        ensures linked { IsLinked self.now.links }
     {
         self.graph.view()
     }
