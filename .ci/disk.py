@@ -1,9 +1,11 @@
 """Runs build/salimgub in folders on disk where the disk, its streams or the machine fail, and compares line, status and files.
 
-A small site of two modules is linked. What must be there afterwards is made here: its map with digests by Python's hashlib, its
-project's file as it is documented. Nothing may be half written: each file is what it was, or the whole new one.
+A small site of two modules is linked, copied, put into its page and kept in a session. What must be there afterwards is made
+here: its map with digests by Python's hashlib, its project's file as it is documented. Nothing may be half written: each file is
+what it was, or the whole new one.
 """
 import base64
+import collections
 import errno
 import hashlib
 import os
@@ -23,7 +25,7 @@ KEPT = pathlib.Path(tempfile.mkdtemp(prefix='salimgub-disk-'))
 LINK = ('link', '--base', 'https://app.test/', './app.mjs')
 OK = 'ok: 2 modules, 2 requests, 0 mappings\n'
 FILES = {'app.mjs': b'import "./b.mjs";\n', 'b.mjs': b'export {};\n'}
-OLD = {'importmap.json': b'{}\n', 'importmap.project.json': None}
+OLD = {'importmap.json': b'{}\n'}
 PROJECT = b'''{
   "base": "https://app.test/",
   "page": "/index.html",
@@ -38,7 +40,9 @@ PROJECT = b'''{
 '''
 # The calls of the system that can fail or be the last one of a run.
 CALLS = 'openat,read,write,rename,renameat,renameat2,unlink,unlinkat,close,statx,newfstatat,lstat,stat,mkdir,mkdirat'
-counts = {'passed': 0, 'failed': 0, 'tries': 0}
+counts = {'passed': 0, 'failed': 0}
+# How runs ended that were harmed at a call of the system.
+endings = collections.Counter()
 
 
 def tell(name, *faults):
@@ -284,6 +288,24 @@ def streams():
     succeeds('a closed input', site('closed input'), before=('sh', '-c', 'exec "$0" "$@" <&-'))
 
 
+# ---- sessions
+
+def talks():
+    """sessions whose input or output fails; they write nothing"""
+    opened = OK + 'fault: read\n'
+    folder = site('session without input')
+    put(folder, {'importmap.project.json': PROJECT})
+    fails('a session whose input is closed', folder, 4, opened, words=('session',),
+          before=('sh', '-c', 'exec "$0" "$@" <&-'))
+    inside = os.open(folder, os.O_RDONLY)
+    fails('a session whose input is a folder', folder, 4, opened, words=('session',), stdin=inside)
+    os.close(inside)
+    before = tree(folder)
+    with open('/dev/full', 'wb') as full_output:
+        ended, _, _ = run(folder, 'session', stdout=full_output)
+    tell('a session whose output is full', differs('status', ended, 5), '' if tree(folder) == before else 'files changed')
+
+
 # ---- a file that grows
 
 def growing():
@@ -317,60 +339,112 @@ def growing():
 
 # ---- each call of the system
 
-def is_whole(folder, before):
-    """that each file is as it was or the new one, the project's new only behind the map's, with the drafts that are left"""
-    after = tree(folder)
-    drafts = [it for it in after if it.startswith(b'.salimgub-draft-')]
-    rest = {it: after[it] for it in after if it not in drafts}
-    states = (before, {**before, b'importmap.json': map_of(FILES)}, linked(before))
-    return rest in states, states.index(rest) if rest in states else -1, len(drafts)
+class Work:
+    """a command, what it says, what stands beside the two modules, and what it makes there, one after another"""
+
+    def __init__(self, words, line, files, made):
+        self.words, self.line, self.files, self.made = words, line, files, made
+
+    def put(self, folder):
+        put(folder, {**FILES, **self.files})
+
+    def states(self):
+        """what may stand in the folder, from what was there to what is there behind the whole command"""
+        before = {os.fsencode(name): content for name, content in {**FILES, **self.files}.items()}
+        made = list(self.made.items())
+        return [{**before, **dict(made[:count])} for count in range(len(made) + 1)]
+
+    def found(self, folder):
+        """in which of these states it is, which is -1 where in none, and the drafts that are left"""
+        after = tree(folder)
+        drafts = [it for it in after if os.path.basename(it).startswith(b'.salimgub-draft-')]
+        rest = {it: after[it] for it in after if it not in drafts}
+        states = self.states()
+        return states.index(rest) if rest in states else -1, drafts
+
+    def again(self, folder, state, drafts):
+        """what is wrong with the next run, behind one that was killed"""
+        ended, out, _ = run(folder, *self.words)
+        yield differs('the next status', ended, 0) or differs('the next line', out, self.line)
+        yield '' if self.found(folder) == (len(self.made), drafts) else 'the next run leaves other files'
 
 
-def each_call(name, harm, judge):
-    """runs `link` over an old map once for each call of the system, with harm done at this call"""
-    wrong, number, unharmed = [], 0, 0
-    while unharmed < 3:
-        number += 1
-        folder = KEPT / 'call'
-        shutil.rmtree(folder, ignore_errors=True)
-        folder.mkdir()
-        put(folder, {**FILES, 'importmap.json': b'{}\n'})
-        before = tree(folder)
-        log = KEPT / 'log'
-        strace = ('strace', '-f', '-o', str(log), '-e', f'trace={CALLS}', '-e', f'inject={CALLS}:{harm}:when={number}')
-        ended, out, said = run(folder, *LINK, before=strace)
-        counts['tries'] += 1
-        harmed = 'INJECTED' in log.read_text(errors='replace') or '+++ killed' in log.read_text(errors='replace')
-        unharmed = 0 if harmed else unharmed + 1
-        wrong += [f'call {number}: {it}' for it in judge(folder, before, ended, out, said) if it]
-    tell(name, *wrong[:5])
+class Copying(Work):
+    """one that makes copies in a folder, which must not be there before"""
+    place = 'out/copies'
+
+    def again(self, folder, state, drafts):
+        copies = folder / self.place
+        if copies.exists():
+            ended, out, _ = run(folder, *self.words)
+            yield differs('the next status', ended, 1) or differs('the next line', out, f'refused: Occupied "/{self.place}"\n')
+            yield '' if self.found(folder) == (state, drafts) else 'a refused run changes files'
+            drafts = [it for it in drafts if not it.startswith(os.fsencode(self.place))]
+            shutil.rmtree(copies)
+        yield from super().again(folder, state, drafts)
 
 
-def killed(folder, before, ended, out, said):
-    whole, _, drafts = is_whole(folder, before)
-    yield '' if whole else 'a file is half written'
-    yield '' if drafts <= 1 else f'{drafts} drafts are left'
-    ended, out, _ = run(folder, *LINK)
-    whole, state, left = is_whole(folder, before)
-    yield differs('the next status', ended, 0) or differs('the next line', out, OK)
-    yield '' if whole and state == 2 and left == drafts else 'the next run leaves other files'
+LINKING = Work(LINK, OK, OLD, {b'importmap.json': map_of(FILES), b'importmap.project.json': PROJECT})
+INJECTING = Work(('inject',), OK, {'index.html': b'<head></head>\n', 'importmap.project.json': PROJECT}, {
+    b'index.html': b'<head><script type="importmap">' + map_of(FILES) + b'</script>\n</head>\n'})
+COPYING = Copying(('vendor', '/out/copies'), 'vendored 2 files\n', {'importmap.project.json': PROJECT}, {
+    b'out': stat.S_IFDIR, b'out/copies': stat.S_IFDIR, b'out/copies/app.mjs': FILES['app.mjs'],
+    b'out/copies/b.mjs': FILES['b.mjs']})
 
 
-def erring(folder, before, ended, out, said):
-    whole, state, drafts = is_whole(folder, before)
-    yield '' if whole and not drafts else 'a file is half written, or a draft is left'
+def traced(work, *harm):
+    """a new folder in which a command was run with harm done at a call, how it ended, and the trace of its calls"""
+    folder = KEPT / 'call'
+    shutil.rmtree(folder, ignore_errors=True)
+    folder.mkdir()
+    work.put(folder)
+    log = KEPT / 'log'
+    ended = run(folder, *work.words, before=('strace', '-f', '-o', str(log), '-e', f'trace={CALLS}', *harm))
+    return folder, ended, log.read_text(errors='replace')
+
+
+def calls_of(work):
+    """the calls of a run without harm, also those of the system's loader, each by its name and its number among those of it"""
+    seen = collections.Counter()
+    for name in re.findall(r'^\d+ +(\w+)\(', traced(work)[2], re.M):
+        seen[name] += 1
+        yield name, seen[name]
+
+
+def each_call(kind, harm, judge, work):
+    """runs a command once for each of its calls of the system, with harm done at this one alone"""
+    wrong = []
+    for name, number in list(calls_of(work)):
+        folder, (ended, out, said), log = traced(work, '-e', f'inject={name}:{harm}:when={number}')
+        endings['killed' if judge is killed else f'status {ended}'] += 1
+        harmed = '+++ killed' in log if judge is killed else log.count('INJECTED') == 1
+        faults = ['' if harmed else 'no harm is done', *judge(work, folder, ended, out, said)]
+        wrong += [f'{name} {number}: {it}' for it in faults if it]
+    tell(f'{work.words[0]}: {kind}', *wrong[:5])
+
+
+def killed(work, folder, ended, out, said):
+    state, drafts = work.found(folder)
+    yield '' if state >= 0 else 'a file is half written'
+    yield '' if len(drafts) <= 1 else f'{len(drafts)} drafts are left'
+    yield from work.again(folder, state, drafts)
+
+
+def erring(work, folder, ended, out, said):
+    state, drafts = work.found(folder)
+    yield '' if state >= 0 and not drafts else 'a file is half written, or a draft is left'
     yield '' if ended in (0, 4, 5, 8) or state == 0 and ended > 0 else f'status {ended}, {out!r}, {said!r}'
-    yield '' if state == 2 or ended else 'nothing is written, with status 0'
+    yield '' if state == len(work.made) or ended else 'not all is written, with status 0'
     yield '' if state == 0 or ended in (0, 5) else f'files are written, with status {ended}'
     yield '' if ended != 4 or out == 'fault: read\n' else f'line {out!r}'
     yield '' if ended >= 0 else f'ended by signal {-ended}'
 
 
 def calls():
-    each_call('killed at each call', f'signal={signal.SIGKILL.name}', killed)
-    each_call('EIO at each call', 'error=EIO', erring)
-    each_call('ENOSPC at each call', 'error=ENOSPC', erring)
-    each_call('EMFILE at each call', 'error=EMFILE', erring)
+    for work in (LINKING, INJECTING, COPYING):
+        each_call('killed at each call', f'signal={signal.SIGKILL.name}', killed, work)
+        for error in ('EIO', 'ENOSPC', 'EMFILE'):
+            each_call(f'{error} at each call', f'error={error}', erring, work)
 
 
 def outside():
@@ -391,10 +465,11 @@ def main():
     global PROGRAM
     KEPT.chmod(0o755)
     PROGRAM = pathlib.Path(shutil.copy(PROGRAM, KEPT / 'salimgub'))
-    for part in (disks, rights, names, special, streams, growing, calls, outside):
+    for part in (disks, rights, names, special, streams, talks, growing, calls, outside):
         part()
     shutil.rmtree(KEPT)
-    print(f'{counts["tries"]} runs harmed at a call of the system')
+    told = ', '.join(f'{count} {ending}' for ending, count in sorted(endings.items()))
+    print(f'{endings.total()} runs harmed at a call of the system: {told}')
     print(f'{counts["passed"]} passed, {counts["failed"]} failed')
     return counts['failed'] > 0
 

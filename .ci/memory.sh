@@ -1,6 +1,6 @@
 #!/bin/sh
-# Lets each allocation of a run fail in turn, outside the gate: of `link` over packages, of `unlink`, `refresh` and `inject`,
-# and of a session with two edits.
+# Lets each allocation of a run fail in turn, outside the gate: of `link` over packages, of `unlink`, `refresh`, `check` and
+# `inject`, and of sessions with edits that are accepted and refused.
 # The runs are those of files in crates/run_rows/data, tried by the proved program that the
 # gate built: the first allocation fails, then the second, and so on to the last that the run makes. Prints how often the
 # runs ended in which way; the first allocations are those with which the row itself is read. Of the session a second run

@@ -5,7 +5,12 @@
 program=$(cd "$(dirname "$0")/.." && pwd)/build/salimgub
 kept=$(mktemp -d) || exit 1
 trap 'rm -rf "$kept"' EXIT
-failed=0
+
+# That a row failed: also where it is tried behind a pipe, in a shell of its own.
+fail() {
+    echo "$1"
+    : >"$kept/failed"
+}
 
 # The text of the project's file with one entry: project ENTRY.
 project() {
@@ -51,8 +56,7 @@ row() {
 }" | diff - "$kept/told"; then
         return
     fi
-    echo "$1: status $status"
-    failed=1
+    fail "$1: status $status"
 }
 
 mkdir "$kept/smallest" && : >"$kept/smallest/app.mjs"
@@ -139,8 +143,73 @@ row ui ./src/main.js 0 'ok: 5 modules, 6 requests, 3 mappings' <<'MAP'
 }
 MAP
 
-# The first condition of the object that applies, in the order of the object.
+# Another site of the same packages.
 cp -R "$kept/ui" "$kept/order" && rm -f "$kept/order/importmap.json" "$kept/order/importmap.project.json"
+
+# Runs a command over the linked packages: ui STATUS WORDS.., and what it must say on the standard input.
+ui() {
+    wanted=$1
+    shift
+    (cd "$kept/ui" && "$program" "$@" >"$kept/out" </dev/null)
+    status=$?
+    if [ "$status" = "$wanted" ] && diff - "$kept/out"; then
+        return
+    fi
+    fail "ui: $*: status $status"
+}
+
+# That the folder $kept/ui has these files below /out, with their bytes, and no others: copies PATH..
+copies() {
+    printf '%s\n' "$@" | diff - "$kept/found" || return 1
+    for path in "$@"; do
+        cmp "$kept/ui/$path" "$kept/ui/out/$path" || return 1
+    done
+}
+
+# The other commands over these packages: the map is made again, what is loaded is told and copied, and the entry is
+# taken out.
+mv "$kept/ui/importmap.json" "$kept/uimap"
+echo 'ok: 5 modules, 6 requests, 3 mappings' | ui 0 refresh
+diff "$kept/uimap" "$kept/ui/importmap.json" || fail "ui: another map"
+ui 0 list <<'LINES'
+"/src/main.js" 3
+"/node_modules/ui/b.js" 1
+"/node_modules/ui/x/menu.js" 1
+"/src/style.js" 0
+"/node_modules/ui/node_modules/@ui/core/lib/index.mjs" 0
+LINES
+ui 0 why /node_modules/ui/node_modules/@ui/core/lib/index.mjs <<'LINES'
+page "/index.html"
+asks "./src/main.js" gets "/src/main.js"
+asks "ui" gets "/node_modules/ui/b.js"
+asks "@ui/core" gets "/node_modules/ui/node_modules/@ui/core/lib/index.mjs"
+LINES
+echo 'not reached: "/node_modules/ui/n.js"' | ui 10 why /node_modules/ui/n.js
+echo 'vendored 8 files' | ui 0 vendor /out
+(cd "$kept/ui/out" && find . -type f | sed 's|^\./||' | LC_ALL=C sort) >"$kept/found"
+if ! copies node_modules/ui/b.js node_modules/ui/node_modules/@ui/core/lib/index.mjs \
+    node_modules/ui/node_modules/@ui/core/package.json node_modules/ui/package.json node_modules/ui/x/menu.js \
+    package.json src/main.js src/style.js; then
+    fail "ui: copies"
+fi
+echo 'refused: Occupied "/out"' | ui 1 vendor /out
+echo 'ok: 0 modules, 0 requests, 0 mappings' | ui 0 unlink ./src/main.js
+if ! printf '{\n  "imports": {}\n}\n' | diff - "$kept/ui/importmap.json" ||
+    ! diff - "$kept/ui/importmap.project.json" <<'PROJECT'; then
+{
+  "base": "https://app.test/",
+  "page": "/index.html",
+  "conditions": [
+    "browser",
+    "import"
+  ],
+  "entries": []
+}
+PROJECT
+    fail "ui: unlinked"
+fi
+
+# The first condition of the object that applies, in the order of the object.
 file order/node_modules/ui/package.json '{"name":"ui","type":"module","exports":{'\
 '".":{"types":"./i.d.ts","default":"./n.js","browser":"./b.js"},"./x/*":"./x/*.js"}}'
 row order ./src/main.js 0 'ok: 5 modules, 5 requests, 3 mappings' <<'MAP'
@@ -254,8 +323,7 @@ at() {
     if [ "$status" = "$3" ] && echo "$4" | diff - "$kept/out" && { [ "$3" = 0 ]; [ "$?" = "$written" ]; }; then
         return
     fi
-    echo "$1: status $status"
-    failed=1
+    fail "$1: status $status"
 }
 
 # As many bytes as a file may have, and one more.
@@ -306,6 +374,19 @@ deep=.$(printf '/a%.0s' $(seq 47))
 at looks "$deep/m0.mjs $deep/m1.mjs" 0 'ok: 8001 modules, 8001 requests, 7999 mappings'
 at looks "$deep/m0.mjs $deep/m1.mjs ./more.mjs" 3 'limit: looks above 400000'
 
+# A chain of as many modules as there may be, and one more.
+mkdir "$kept/chain" && python3 - "$kept/chain" <<'TREE'
+import sys
+
+for number in range(20000):
+    with open(f"{sys.argv[1]}/m{number}.mjs", "w") as file:
+        file.write(f'import "./m{number + 1}.mjs";' if number < 19999 else "")
+TREE
+at chain ./m0.mjs 0 'ok: 20000 modules, 20000 requests, 0 mappings'
+echo 'import "./m20000.mjs";' >"$kept/chain/m19999.mjs" && : >"$kept/chain/m20000.mjs"
+at chain ./m0.mjs 3 'limit: modules above 20000'
+rm -r "$kept/chain"
+
 # As many bytes as a map may have, and one more. Each of 16,344 modules, which are one file under names of their own, has a
 # line of 106 bytes and its query; the four that ask for them have one of 106 bytes, the last line of all has no comma, and
 # what stands around them 42 bytes: 42 - 1 + 4 * 106 + 16344 * 106 + 16343 * 4000 + 3935 is 67,108,864.
@@ -323,8 +404,7 @@ TREE
 maps large 3935
 at large "./m0.mjs ./m1.mjs ./m2.mjs ./m3.mjs" 0 'ok: 16348 modules, 16348 requests, 0 mappings'
 if [ "$(wc -c <"$kept/large/importmap.json")" != 67108864 ]; then
-    echo "map: $(wc -c <"$kept/large/importmap.json") bytes"
-    failed=1
+    fail "map: $(wc -c <"$kept/large/importmap.json") bytes"
 fi
 maps large 3936
 at large "./m0.mjs ./m1.mjs ./m2.mjs ./m3.mjs" 3 'limit: map above 67108864'
@@ -347,8 +427,7 @@ sys.stdout.write("end\n")
 INPUT
     status=$?
     if [ "$status" != "$2" ] || ! diff "$kept/wanted" "$kept/out"; then
-        echo "session: status $status"
-        failed=1
+        fail "session: status $status"
     fi
 }
 session 16776940 0 end
@@ -367,8 +446,7 @@ page() {
         [ ! -e "$kept/$1/importmap.json" ]; then
         return
     fi
-    echo "$1: status $status"
-    failed=1
+    fail "$1: status $status"
 }
 
 mkdir "$kept/paged" && echo '<head></head>' >"$kept/paged/index.html" && : >"$kept/paged/app.mjs"
@@ -404,8 +482,7 @@ checked() {
     if [ "$status" = "$2" ] && diff "$kept/wanted" "$kept/out" && [ "$before" = "$after" ]; then
         return
     fi
-    echo "$1: status $status"
-    failed=1
+    fail "$1: status $status"
 }
 
 mkdir "$kept/mapless" && echo 'import "./q.mjs";' >"$kept/mapless/app.mjs"
@@ -487,8 +564,7 @@ says() {
 }" | diff - "$kept/told"; then
         return
     fi
-    echo "$name: $*: status $status"
-    failed=1
+    fail "$name: $*: status $status"
 }
 
 # Words and projects that are refused.
@@ -524,8 +600,7 @@ mkdir -p "$kept/heldproject/importmap.project.json" && file heldproject/app.mjs 
 (cd "$kept/heldproject" && "$program" link --base https://app.test/ ./app.mjs >"$kept/out" 2>"$kept/told")
 if [ $? != 5 ] || ! echo 'fault: write' | diff - "$kept/out" || [ ! -f "$kept/heldproject/importmap.json" ] ||
     [ "$(wc -l <"$kept/told")" != 1 ]; then
-    echo "heldproject"
-    failed=1
+    fail "heldproject"
 fi
 
 # The page and the conditions of a project.
@@ -565,8 +640,7 @@ PROJECT
 </script>
 </head>
 PAGE
-    echo "start"
-    failed=1
+    fail "start"
 fi
 
-exit "$failed"
+[ ! -e "$kept/failed" ]

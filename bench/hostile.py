@@ -1,6 +1,6 @@
 """Measures build/salimgub on input that is made to be slow: maps, pages, modules, package.json files, projects and
 sessions of 16 MiB, alone and together, and says PASS where it is done within ten seconds. Status and line are
-checked as well.
+checked as well. The modules of `strict` are read by the statement grammar too.
 
 `python3 -B bench/hostile.py [MIB] [WORD]..` takes input of another size, and runs the cases whose names hold one of
 the words. A run that takes more than `PATIENCE` seconds of processor time is stopped, and may use no more than
@@ -17,6 +17,7 @@ import bench
 import maps
 import outline
 import page
+import strict
 import tokens
 
 MIB = 1024 * 1024
@@ -108,6 +109,16 @@ def versions_of_queries(count):
             put(folder, f"{side}/node_modules/c/package.json", '{"exports":"./i.mjs"}')
             put(folder, f"{side}/node_modules/c/i.mjs", "")
         return Case(LINK, f"ok: {count + 3} modules, {2 * count + 1} requests, 2 mappings")
+    return case
+
+
+def strict_check(part):
+    """A module of a part of a text again and again, which is also read by the statement grammar, over an empty map."""
+    def case(folder, size):
+        project(folder)
+        put(folder, "app.mjs", part * (size // len(part)))
+        put(folder, "importmap.json", "{}")
+        return Case(("check", "--strict"), "ok: 1 needs served")
     return case
 
 
@@ -221,6 +232,11 @@ def session_of(text, line, status=0):
     return case
 
 
+def edits_of_puts(size):
+    """A file an edit, each of which is accepted."""
+    return filled(size, "", "\nend\n", lambda i: f"put /f{i} 0\n", "\n")
+
+
 def puts(size):
     return filled(size, "begin\n", "\ncommit\nend\n", lambda i: f"put /f{i} 0\n", "\n")
 
@@ -274,6 +290,7 @@ CASES = {
     "module of long queries, above two versions": versions_of_queries(96),
     "module of 4,096 long queries, above two versions": versions_of_queries(4096),
     **{f"module: {shape.__name__}": module_of(shaped(shape), None, None) for shape in tokens.HOSTILE + outline.HOSTILE},
+    **{f"strict: {name}": strict_check(part) for name, part in strict.hostile()},
     "package.json: patterns": package(patterns, lambda i: f"p/{'a' * 60}{i}x", "ok: 2 modules, 2 requests, 1 mappings",
                                       files=("x.mjs",)),
     "package.json: keys": package(many_keys, lambda i: "p/x", "ok: 2 modules, 2 requests, 1 mappings", files=("x.mjs",)),
@@ -311,6 +328,7 @@ CASES = {
     "session: edits of nothing": session_of(lambda size: "begin\ncommit\n" * (size // 13) + "end\n", "end"),
     "session: changes that are refused": session_of(lambda size: "unlink q\n" * (size // 9) + "end\n", "end"),
     "session: maps": session_of(lambda size: "map\n" * (size // 4) + "end\n", "end"),
+    "session: edits that are accepted": session_of(edits_of_puts, "end"),
     "session: one edit of puts": session_of(puts, "end"),
     "session: one edit of puts at one path": session_of(puts_of_one, "end"),
     "session: one edit of deep puts": session_of(deep_puts, "end"),
