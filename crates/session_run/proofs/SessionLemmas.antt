@@ -22,7 +22,7 @@ use Rattle.generation.specs.declared.stop.Stop.TheVariants as stop
 use Rattle.generator_spec.proofs.Configs.{one_config}
 use Rattle.generator_spec.proofs.CountedQuestions.{always_asked}
 use Rattle.generator_spec.specs.Asked.{IsConfigAt}
-use Rattle.generator_spec.specs.Commands.{IsMapping as mapping, Opens as opens}
+use Rattle.generator_spec.specs.Commands.{IsMapping as mapping, Opens as openings}
 use Rattle.generator_spec.specs.Ending.{CanRefuse as can}
 use Rattle.generator_spec.specs.Lines.{status_of, line_of, limit_line, memory_line, read_fault_line}
 use Rattle.generator_spec.specs.Outcome.{RefusesRun, by_tree}
@@ -295,7 +295,7 @@ opening_spends config before spent mid is_config few =
           let all = always_asked (get tree) config in
           let some = each all.asked all.are in
           let here : SpendsByTrace tree Refresh config spent mid =
-          record { asked = all.asked; are = all.are; few = omega (arith, some); opened = inr (opens.nothing Refresh mapping.refresh) } in
+          record { asked = all.asked; are = all.are; few = omega (arith, some); opened = inr (openings.nothing Refresh mapping.refresh) } in
           subst (λ (one : Command). SpendsByTrace tree one other spent mid) same.one_command
           (subst (λ (one : Config). SpendsByTrace tree Refresh one spent mid) same.one_config here);
       no_config = λ none no_measure. absurd (none Refresh config is);
