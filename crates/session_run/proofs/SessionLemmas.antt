@@ -24,14 +24,14 @@ use Rattle.generator_spec.proofs.CountedQuestions.{always_asked}
 use Rattle.generator_spec.specs.Asked.{IsConfigAt}
 use Rattle.generator_spec.specs.Commands.{IsMapping as mapping, Opens as openings}
 use Rattle.generator_spec.specs.Ending.{Ends, CanRefuse as can}
-use Rattle.generator_spec.specs.Lines.{status_of, line_of, limit_line, memory_line, read_fault_line}
+use Rattle.generator_spec.specs.Lines.{status_of, line_of, memory_line, read_fault_line}
 use Rattle.generator_spec.specs.Outcome.{RefusesRun, by_tree}
 use Rattle.generator_spec.specs.Statuses.{memory_status, read_fault_status}
 use Rattle.generator_spec.specs.Steps.{SpendsByTrace, TraceSpends}
 use Rattle.package_lookup.specs.Looked.{kept_at}
 use Rattle.soundness.proofs.SessionMaps.{session_maps_serve}
 use Rattle.session_input.proofs.ReaderLemmas.{takes_none}
-use Rattle.session_spec.specs.Conversations.{Answers, end_reply, bad_line}
+use Rattle.session_spec.specs.Conversations.{Answers}
 use Rattle.session_spec.specs.Replies.{accepted_line}
 use Rattle.session_spec.specs.SessionRuns as runs
 use Rattle.session_spec.specs.Openings.{refresh_words, OpensAt, CanOpen, opens, opening_line}
