@@ -6,8 +6,6 @@ use Rattle.tree_spec.specs.Counts.{Rose}
 use Rattle.tree_spec.specs.States.{FolderState}
 use Rattle.tree_spec.specs.Trees.{Tree}
 use Rattle.tree_spec.specs.declared.Look.{Look}
-use Rattle.tree_spec.specs.Limits.{limit_number}
-use Rattle.tree_spec.specs.declared.LimitName.TheVariants.{Modules}
 use Rattle.tree_spec.proofs.ToldStates.{if_some, if_all}
 use Rattle.slot_arena.specs.Slots.{Place, value_at}
 use Rattle.slot_arena.specs.declared.slot.Slot.{Slot}
@@ -23,7 +21,7 @@ use Rattle.session_spec.specs.Frugality.{IsFrugal}
 use Rattle.session_spec.specs.Replies.{IsRefused, IsAccepted, fault_line, accepted_line}
 use Rattle.session_spec.specs.SessionDoings.{SeesMore, Display, GraphGoes, goes_on, begins_anew, ShowsNext, ShowsSame, DoesEdit as does_edit, MayShow, MayShow as may}
 use Rattle.session_spec.specs.SessionStates.{SessionState, draft_of}
-use Rattle.session_spec.specs.Showings.{Shown, KeepsSlots, most_made, made_at_once}
+use Rattle.session_spec.specs.Showings.{Shown, KeepsSlots, made_at_once}
 use Rattle.session_spec.specs.SessionSteps.{generations, most_steps}
 use Rattle.session_spec.proofs.SessionSpending.{few_by_none}
 use Rattle.request_trace.specs.Tracing.{TakesSteps}

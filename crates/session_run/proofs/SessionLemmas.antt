@@ -22,16 +22,16 @@ use Rattle.generation.specs.declared.stop.Stop.TheVariants as stop
 use Rattle.generator_spec.proofs.Configs.{one_config}
 use Rattle.generator_spec.proofs.CountedQuestions.{always_asked}
 use Rattle.generator_spec.specs.Asked.{IsConfigAt}
-use Rattle.generator_spec.specs.Commands.{IsMapping as mapping, Opens as opens}
-use Rattle.generator_spec.specs.Ending.{CanRefuse as can}
-use Rattle.generator_spec.specs.Lines.{status_of, line_of, limit_line, memory_line, read_fault_line}
+use Rattle.generator_spec.specs.Commands.{IsMapping as mapping, Opens as openings}
+use Rattle.generator_spec.specs.Ending.{Ends, CanRefuse as can}
+use Rattle.generator_spec.specs.Lines.{status_of, line_of, memory_line, read_fault_line}
 use Rattle.generator_spec.specs.Outcome.{RefusesRun, by_tree}
 use Rattle.generator_spec.specs.Statuses.{memory_status, read_fault_status}
 use Rattle.generator_spec.specs.Steps.{SpendsByTrace, TraceSpends}
 use Rattle.package_lookup.specs.Looked.{kept_at}
 use Rattle.soundness.proofs.SessionMaps.{session_maps_serve}
 use Rattle.session_input.proofs.ReaderLemmas.{takes_none}
-use Rattle.session_spec.specs.Conversations.{Answers, end_reply, bad_line}
+use Rattle.session_spec.specs.Conversations.{Answers}
 use Rattle.session_spec.specs.Replies.{accepted_line}
 use Rattle.session_spec.specs.SessionRuns as runs
 use Rattle.session_spec.specs.Openings.{refresh_words, OpensAt, CanOpen, opens, opening_line}
@@ -295,7 +295,7 @@ opening_spends config before spent mid is_config few =
           let all = always_asked (get tree) config in
           let some = each all.asked all.are in
           let here : SpendsByTrace tree Refresh config spent mid =
-          record { asked = all.asked; are = all.are; few = omega (arith, some); opened = inr (opens.nothing Refresh mapping.refresh) } in
+          record { asked = all.asked; are = all.are; few = omega (arith, some); opened = inr (openings.nothing Refresh mapping.refresh) } in
           subst (λ (one : Command). SpendsByTrace tree one other spent mid) same.one_command
           (subst (λ (one : Config). SpendsByTrace tree Refresh one spent mid) same.one_config here);
       no_config = λ none no_measure. absurd (none Refresh config is);
@@ -327,8 +327,8 @@ module _ (config : Config) (before mid : FolderState) (session : Session) (openi
   abbrev told_first : Option SessionState
   told_first = begun_told config session before.holds opening.opened
 
-  abbrev view_first : EditorState
-  view_first = record { told = told_first; faults = mid.look_faults; asked = mid.asked; spent = spent_mid }
+  abbrev view_first : Option (List (List Shown)) → EditorState
+  view_first seen = record { told = told_first; faults = mid.look_faults; asked = mid.asked; spent = spent_mid; display = display_of session; seen = seen }
 
   is_begun : IsBegun config session told_first before.holds
   is_begun = begun_is config session before.holds opening.opened is_config.told
@@ -352,8 +352,9 @@ module _ (config : Config) (before mid : FolderState) (session : Session) (openi
 
   told_opened : (P : Tree → Type 0) → ((state : SessionState) (tree : Tree) → Begins config session tree state → TraceSpends refresh_words tree spent spent_mid → P tree) → IfSome before.holds P
   told_opened P f =
-      if_two before.holds (λ tree spends begins. f begins.0 tree begins.1 spends) by_trace
-      (lifted config session told_first before.holds is_begun {P = λ state. Unit {0}} (λ state tree begins any. (state, begins)) (if_all told_first (λ state. tt)))
+      if_two before.holds (λ tree spends from. from spends) by_trace
+      (lifted config session {P = λ state. Unit {0}} {Q = λ tree. TraceSpends refresh_words tree spent spent_mid → P tree} told_first before.holds is_begun
+      (λ state tree begins any spends. f state tree begins spends) (if_all told_first (λ state. tt)))
 
   unsaid_does : IfSome before.holds (λ tree. SessionDoes tree [] spent [] spent_mid (showing_in session ∷ []))
   unsaid_does = told_opened (λ tree. SessionDoes tree [] spent [] spent_mid (showing_in session ∷ [])) (λ state tree begins spends. doings.unsaid state first_done begins.opens_at (is_opening state tree begins) spends)
@@ -375,7 +376,7 @@ module _ (config : Config) (before mid : FolderState) (session : Session) (openi
     does_then : IfSome told_first EditsDone → IfSome before.holds AllDone
     does_then does =
         if_two before.holds (λ tree spends from. from spends) by_trace
-        (lifted config session told_first before.holds is_begun {P = EditsDone} {Q = λ tree. TraceSpends refresh_words tree spent spent_mid → AllDone tree}
+        (lifted config session {P = EditsDone} {Q = λ tree. TraceSpends refresh_words tree spent spent_mid → AllDone tree} told_first before.holds is_begun
         (λ state tree begins edits spends.
         subst (λ (n : ℕ). SessionDoes tree taken spent (opened_line session ++ replied) n (showing_in session ∷ showings)) rested
         (subst (λ (line : List ℕ). SessionDoes tree taken spent (line ++ replied) last (showing_in session ∷ showings)) begins.line

@@ -1,4 +1,4 @@
-use Rattle.std.proofs.Common.{◌≡◌, Err, refl, subst}
+use Rattle.std.proofs.Common.{◌≡◌, refl, subst}
 use Rattle.std.specs.Prelude.{IfOk}
 use Rattle.session_spec.specs.Replies.{accepted_line}
 use Rattle.edit_session.specs.SessionTrees.{shown_counts}

@@ -1,7 +1,14 @@
-use Rattle.std.proofs.Common.{[], ap, ◌∙◌}
+use Rattle.std.proofs.Common.{[], refl, subst, ap, ◌∙◌}
+use Rattle.generator_spec.specs.Ending.{Ends}
 use Rattle.session_spec.specs.Replies.{accepted_line}
+use Rattle.session_run.specs.Sessions.{wants}
 use Rattle.session_run.proofs.TalkLemmas.{opened_cut, opened_replies}
 use Rattle.session_run.proofs.sessions.shown.Goals as goal
+
+pub returns-in-Err-clause-ends : goal.returns-in-Err-clause-ends
+returns-in-Err-clause-ends g c =
+    wants refl refl refl refl
+    (subst (λ line. Ends 8 line (g.O.Sink.state c.args.out.now) (g.O.Sink.state c.tell.new.out) c.tell.result) c.memory_line.ensures c.tell.ensures.ends)
 
 pub returns-in-Err-give-clause-ends : goal.returns-in-Err-give-clause-ends
 returns-in-Err-give-clause-ends g c =
