@@ -6,6 +6,7 @@ use kept_answers::{KeptModules, KeptRequests};
 use shared_types::Memory;
 use std::alloc::Global;
 use std::mem;
+use trace_walk::KeptNames;
 
 /// What is kept of a walk's answers: the sources of modules, and where requests lead under some conditions.
 #[derive(Drop)]
@@ -34,11 +35,13 @@ impl Kept {
     }
 }
 
-/// What is kept of the answers of a walk, and what is kept for the next one, under the same conditions.
+/// What is kept of the answers of a walk, and what is kept for the next one, under the same conditions; and beside them
+/// the names of modules and what requests ask for: no contract sees these, since they serve each walk.
 #[derive(Drop)]
 pub struct TraceAnswers {
     pub(crate) kept: Kept,
     pub(crate) next: Kept,
+    pub(crate) names: KeptNames,
     ghost under: { AreUnderOne kept next },
 }
 
@@ -51,6 +54,7 @@ impl TraceAnswers {
         Ok(TraceAnswers {
             kept: Kept::new(alloc, conditions)?,
             next: Kept::new(alloc, conditions)?,
+            names: KeptNames::new(alloc),
         })
     }
 

@@ -19,7 +19,7 @@ use std::alloc::Global;
 use std::sync::ledger::Ledger;
 use trace_config::Config;
 use trace_spec::TraceFault;
-use trace_walk::{Tables, walk};
+use trace_walk::{KeptNames, Tables, walk};
 use tree_model::Folder;
 
 impl TraceAnswers {
@@ -62,7 +62,9 @@ impl TraceAnswers {
             steps,
             &self.kept,
             &mut self.next,
+            &mut self.names,
         )?;
+        self.names.begin(tables.modules.len());
         let trace = trace_of(alloc, config, tables, trail)?;
         Ok(trace)
     }
@@ -78,6 +80,7 @@ fn tables_again<F: Folder, L: Ledger>(
     steps: &mut Steps<L>,
     kept: &Kept,
     next: &mut Kept,
+    names: &mut KeptNames,
 ) -> Result<Tables, TraceFault>
     requires first { trail.old ≡ no_trail }
     requires under { AreUnderOne kept.now next.old }
@@ -109,5 +112,5 @@ fn tables_again<F: Folder, L: Ledger>(
         kept,
         next,
     };
-    walk(alloc, &mut answers, config)
+    walk(alloc, &mut answers, names, config)
 }
