@@ -142,9 +142,13 @@ impl KeptNames {
             module: target.copy(alloc)?,
             name: name.copy(alloc)?,
         };
-        let key = target.copy(alloc)?;
-        self.names.insert(key, anew)?;
+        self.put_name(target.copy(alloc)?, anew)?;
         Ok(name)
+    }
+
+    fn put_name(&mut self, target: Module, anew: KeptName) -> Result<(), Memory> {
+        self.names.insert(target, anew)?;
+        Ok(())
     }
 
     // Turns to what is kept of a referrer's requests.
@@ -187,9 +191,14 @@ impl KeptNames {
             specifier: specifier.copy(alloc)?,
             asked: asked.copy(alloc)?,
         };
+        self.put_ask(anew)?;
+        Ok(asked)
+    }
+
+    fn put_ask(&mut self, anew: KeptAsk) -> Result<(), Memory> {
         self.present_asks.truncate(self.place);
         self.present_asks.push(anew)?;
-        Ok(asked)
+        Ok(())
     }
 }
 
