@@ -2,6 +2,7 @@ ghost use Rattle.std.specs.Prelude.{◌≡◌, None};
 
 use crate::kept_digests::KeptDigests;
 use crate::kept_layout::KeptLayout;
+use crate::kept_pairs::KeptPairs;
 use std::alloc::Global;
 
 /// What is kept of maps for later ones: the digests of modules' bytes, and the last layout. Each is taken only for the
@@ -9,6 +10,7 @@ use std::alloc::Global;
 #[derive(Drop)]
 pub struct KeptMap {
     pub(crate) digests: KeptDigests,
+    pub(crate) pairs: KeptPairs,
     pub(crate) layout: Option<KeptLayout>,
 }
 
@@ -19,6 +21,7 @@ impl KeptMap {
     {
         KeptMap {
             digests: KeptDigests::new(alloc),
+            pairs: KeptPairs::new(alloc),
             layout: None,
         }
     }

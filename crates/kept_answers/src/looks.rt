@@ -15,6 +15,7 @@ use package_lookup::{Lookup, LookupFault, Seen};
 use shared_types::{Listed, Memory};
 use std::alloc::Global;
 use std::marker::Model;
+use std::rc::Rc;
 use tree_model::{Folder, Path, Paths};
 
 /// A look and what it saw, which is no file above the limit. Bytes are shared with what is known.
@@ -83,17 +84,38 @@ fn same_seen(one: &Seen, other: &Seen) -> bool
     }
 }
 
+/// The looks of a question, with their paths, which trails share.
+#[derive(Drop)]
+pub struct Looks {
+    paths: Rc<Paths>,
+    items: Listed<LookedAt>,
+}
+
+impl Model for Looks {
+    ghost use Rattle.std.specs.Prelude.{List};
+    ghost use Rattle.kept_spec.specs.Certificates.{LookSeen};
+    ghost use Rattle.kept_answers.specs.KnownLooks.{AreLooksOf};
+
+    ghost Value = { List LookSeen };
+
+    ghost view = { λ l. l.items };
+
+    ghost invariant = { λ l. AreLooksOf l.paths.value l.items };
+}
+
 /// Looks again at the paths of the present question, which leaves the trail.
 pub(crate) fn looks_of<F: Folder>(
     lookup: &mut Lookup<'_, F>,
-) -> Result<Listed<LookedAt>, LookupFault>
+) -> Result<Looks, LookupFault>
     ensures answered { Answered (state_of F.state lookup.old) (look_at_each lookup.old.trail.now.question)
         (looked done result) (state_of F.state lookup.new) }
     ensures looks { IfOk result (λ looks. AreLooksAt lookup.new.known.now lookup.old.trail.now.question looks) }
     ensures same { IsSameLookup lookup.old lookup.new }
 {
     let paths = copy_of(lookup.alloc, lookup.trail.question())?;
-    looks_at(lookup, paths.as_slice())
+    let items = looks_at(lookup, paths.as_slice())?;
+    let paths = Rc::new(lookup.alloc, paths)?;
+    Ok(Looks { paths, items })
 }
 
 fn copy_of(alloc: Global, paths: &Paths) -> Result<Paths, Memory>
@@ -141,6 +163,60 @@ fn looks_at<F: Folder>(
 
 /// Looks again at the paths of these looks, in a new question, up to the first that sees otherwise. Whether none does.
 pub(crate) fn look_again<F: Folder>(
+    lookup: &mut Lookup<'_, F>,
+    looks: &Looks,
+) -> Result<bool, LookupFault>
+    ensures again { LooksAgain (state_of F.state lookup.old) looks.now result
+        (state_of F.state lookup.new) }
+    ensures same { IsSameLookup lookup.old lookup.new }
+{
+    if all_seen(lookup, looks.items.as_slice())? {
+        lookup.trail.ask_again(Rc::clone(&looks.paths)?);
+        return Ok(true);
+    }
+    look_one_by_one(lookup, looks.items.as_slice())
+}
+
+// Whether each of these looks sees the same, without one at the folder and within the limits. They are counted.
+fn all_seen<F: Folder>(
+    lookup: &mut Lookup<'_, F>,
+    looks: &[LookedAt],
+) -> Result<bool, LookupFault>
+    ensures all { PassesAll (state_of F.state lookup.old) looks.now result (state_of F.state lookup.new) }
+    ensures same { IsSameLookup lookup.old lookup.new }
+{
+    let mut rest = looks;
+    while let Some((look, others)) = rest.split_first() {
+        if !is_seen_again(lookup, look)? {
+            return Ok(false);
+        }
+        rest = others;
+    }
+    Ok(true)
+}
+
+fn is_seen_again<F: Folder>(
+    lookup: &mut Lookup<'_, F>,
+    look: &LookedAt,
+) -> Result<bool, LookupFault>
+    ensures one { PassesOne (state_of F.state lookup.old) look.now result (state_of F.state lookup.new) }
+    ensures same { IsSameLookup lookup.old lookup.new }
+{
+    let same = match lookup.known.shown(look.path()) {
+        None => false,
+        Some(seen) => look.saw(seen),
+    };
+    if !same {
+        return Ok(false);
+    }
+    let within = lookup
+        .trail
+        .pass(lookup.alloc, look.path(), look.seen.size())?;
+    Ok(within)
+}
+
+// The same, look by look.
+fn look_one_by_one<F: Folder>(
     lookup: &mut Lookup<'_, F>,
     looks: &[LookedAt],
 ) -> Result<bool, LookupFault>

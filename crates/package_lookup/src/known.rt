@@ -136,6 +136,16 @@ impl Known {
         }
     }
 
+    /// What is known to stand at a path; none where nothing is known, or a file above the limit.
+    pub fn shown(&self, path: &Path) -> Option<&Seen>
+        ensures { IfSome (option_copied result) (λ seen. known_at self.now path.now ≡ Some (look_seen seen)) }
+    {
+        match self.find(path) {
+            None => None,
+            Some(held) => held.seen(),
+        }
+    }
+
     fn find(&self, path: &Path) -> Option<&Held>
         ensures { option_copied result ≡ known_at self.now path.now }
     {

@@ -10,11 +10,12 @@ use indexmap::IndexSet;
 use shared_types::Memory;
 use std::alloc::Global;
 use std::marker::Model;
+use std::rc::Rc;
 use tree_model::{Path, Paths};
 use tree_spec::{LimitName, MOST_BYTES, MOST_FILE_BYTES, MOST_LOOKS};
 
 /// The distinct paths that one generation looked at, how many bytes the files among them have together, and the
-/// distinct paths of the present question.
+/// distinct paths of the present question, which may be shared with what is kept of it.
 #[derive(Drop)]
 pub struct Trail {
     alloc: Global,
@@ -22,6 +23,7 @@ pub struct Trail {
     size: u64,
     question: Paths,
     asked: IndexSet<Path>,
+    shared: Option<Rc<Paths>>,
 }
 
 impl Model for Trail {
@@ -30,7 +32,11 @@ impl Model for Trail {
 
     ghost Value = { spec.Trail };
 
-    ghost view = { λ trail. record { paths = trail.paths.keys; size = trail.size; question = trail.question } };
+    ghost view = { λ trail. record {
+      paths = trail.paths.keys;
+      size = trail.size;
+      question = shared_or trail.shared trail.question;
+    } };
 
     ghost invariant = { λ trail. trail.asked.keys ≡ trail.question };
 }
@@ -46,6 +52,7 @@ impl Trail {
             size: 0,
             question: Paths::new(alloc),
             asked: IndexSet::new(alloc),
+            shared: None,
         }
     }
 
@@ -53,8 +60,11 @@ impl Trail {
     pub fn begin(&mut self)
         ensures { self.new ≡ begun self.old }
     {
-        self.question = Paths::new(self.alloc);
-        self.asked.clear();
+        self.shared = None;
+        if !self.question.is_empty() {
+            self.question = Paths::new(self.alloc);
+            self.asked.clear();
+        }
     }
 
     /// All paths at which was looked, in the order of first looks.
@@ -68,7 +78,55 @@ impl Trail {
     pub fn question(&self) -> &Paths
         ensures { result.now ≡ self.now.question }
     {
-        &self.question
+        match &self.shared {
+            Some(paths) => paths,
+            None => &self.question,
+        }
+    }
+
+    /// Begins a question, all of whose paths are counted: these, each once.
+    pub fn ask_again(&mut self, paths: Rc<Paths>)
+        requires { IsDistinct bytes_eq paths.value }
+        ensures { self.new ≡ asked_again self.old paths.value }
+    {
+        self.begin();
+        self.shared = Some(paths);
+    }
+
+    /// Counts a look at a path at which so many bytes stand, in no question; false where it passes a limit.
+    pub fn pass(&mut self, alloc: Global, path: &Path, size: u64) -> Result<bool, Memory>
+        ensures { Passes self.old path.now size result self.new }
+    {
+        if size > MOST_FILE_BYTES {
+            return Ok(false);
+        }
+        if self.paths.contains(path) {
+            return Ok(true);
+        }
+        let sum = self.size.saturating_add(size);
+        if self.paths.len() >= MOST_LOOKS || sum > MOST_BYTES {
+            return Ok(false);
+        }
+        self.add(path.copy(alloc)?)?;
+        self.size = sum;
+        Ok(true)
+    }
+
+    // The question's paths are its own.
+    fn unshare(&mut self, alloc: Global) -> Result<(), Memory>
+        ensures { self.new ≡ self.old }
+    {
+        match self.shared.take() {
+            None => Ok(()),
+            Some(paths) => self.note_all(alloc, paths.as_slice()),
+        }
+    }
+
+    fn note_all(&mut self, alloc: Global, paths: &[Path]) -> Result<(), Memory> {
+        for path in paths {
+            self.note_own(alloc, path)?;
+        }
+        Ok(())
     }
 
     /// Whether a look at a path isn't one path too many.
@@ -145,6 +203,13 @@ impl Trail {
         ensures noted { OnOk result (self.new ≡ seen_again self.old path.now) }
         ensures grows { Lengthens self.old self.new }
     {
+        if self.shared.is_some() {
+            self.unshare(alloc)?;
+        }
+        self.note_own(alloc, path)
+    }
+
+    fn note_own(&mut self, alloc: Global, path: &Path) -> Result<(), Memory> {
         if self.asked.contains(path) {
             return Ok(());
         }

@@ -90,6 +90,33 @@ impl<V: Drop> Keyed<V> {
         Ok(())
     }
 
+    /// Puts a value in the place of the one that a key has, where it has one.
+    pub fn set(&mut self, key: &Text, value: V)
+        ensures { self.new ≡ with_value self.old key.now value }
+    {
+        let place = self.place_of(key);
+        if let Some(pair) = self.items.get_mut(place) {
+            if pair.0 == *key {
+                pair.1 = value;
+            }
+        }
+    }
+
+    // How many keys are smaller.
+    fn place_of(&self, key: &Text) -> usize {
+        let mut low = 0;
+        let mut high = self.items.len();
+        while low < high {
+            let middle = low + (high - low) / 2;
+            if self.items[middle].0 < *key {
+                low = middle + 1;
+            } else {
+                high = middle;
+            }
+        }
+        low
+    }
+
     /// The entries of an ordered map, which are moved.
     pub fn from_map(alloc: Global, map: BTreeMap<Text, V>) -> Result<Keyed<V>, Memory>
         ensures entries { IfOk result (λ keyed. keyed ≡ map.entries) }
