@@ -114,8 +114,18 @@ pub(crate) fn looks_of<F: Folder>(
 {
     let paths = copy_of(lookup.alloc, lookup.trail.question())?;
     let items = looks_at(lookup, paths.as_slice())?;
-    let paths = Rc::new(lookup.alloc, paths)?;
-    Ok(Looks { paths, items })
+    let looks = joined(lookup.alloc, paths, items)?;
+    Ok(looks)
+}
+
+fn joined(alloc: Global, paths: Paths, items: Listed<LookedAt>) -> Result<Looks, Memory>
+    requires { AreLooksOf paths items }
+    ensures { IfOk result (λ looks. looks ≡ items) }
+{
+    Ok(Looks {
+        paths: Rc::new(alloc, paths)?,
+        items,
+    })
 }
 
 fn copy_of(alloc: Global, paths: &Paths) -> Result<Paths, Memory>

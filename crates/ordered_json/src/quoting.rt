@@ -52,7 +52,7 @@ fn all_stand(bytes: &[u8]) -> bool
 {
     let mut all = true;
     for byte in bytes {
-        all = all && stands_for_itself(*byte);
+        all = all & stands_for_itself(*byte);
     }
     all
 }
@@ -60,7 +60,7 @@ fn all_stand(bytes: &[u8]) -> bool
 fn stands_for_itself(byte: u8) -> bool
     ensures { IsTrue result → escaped_byte byte ≡ byte ∷ [] }
 {
-    byte != QUOTE && byte != BACKSLASH && byte != LESS_THAN && byte >= 32
+    (byte != QUOTE) & (byte != BACKSLASH) & (byte != LESS_THAN) & (byte >= 32)
 }
 
 fn push_escaped(into: &mut Vec<u8>, bytes: &[u8]) -> Result<(), Memory>
