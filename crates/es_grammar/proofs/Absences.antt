@@ -1,24 +1,25 @@
 -- A form that misses by the token at a place alone is passed over there.
-use Rattle.std.proofs.Common.{◌≡◌, ℕ, Bool, true, false, List, [], ◌∷◌, not, map, Option, Some, Result, Ok, Err, IfOk, refl, sym, ◌∙◌, ap, subst}
+use Rattle.std.proofs.Common.{◌≡◌, ◌<◌, nat_le, if◌then◌else◌, ℕ, Bool, true, false, List, [], ◌∷◌, not, map, Option, Some, Result, Ok, Err, IfOk, refl, sym, ◌∙◌, ap, subst}
 use Rattle.std.specs.Bool.{OnTrue}
+use Rattle.std.proofs.lemmas.Bool.{lt-leb}
 use denote.Bor.{Bor}
 use Rattle.grammar_spec.specs.declared.names.Context.{Context}
 use Rattle.grammar_spec.specs.declared.names.Rule.{Rule}
 use Rattle.grammar_spec.specs.declared.names.Test.{Test}
 use Rattle.grammar_spec.specs.declared.names.Guard.{Guard}
 use Rattle.grammar_spec.specs.Sights.{Sight, is_quoted, passes, holds}
-use Rattle.grammar_spec.specs.Forms.{Form, ◌∣◌, maybe, many}
+use Rattle.grammar_spec.specs.Forms.{Form, ◌▸◌, ◌∣◌, maybe, many, nested, rule}
 use Rattle.grammar_spec.specs.Statements.{body}
-use Rattle.grammar_spec.specs.Readings.{Place, misses, stays, taken, looked, Reads}
+use Rattle.grammar_spec.specs.Readings.{Place, misses, stays, taken, looked, most_open, deeper, Reads}
 use Rattle.grammar_spec.specs.Readings.{Reads as reads_as}
 use Rattle.grammar_table.specs.declared.node.Node as node
 use Rattle.grammar_table.specs.declared.node.Node.{Node}
 use Rattle.grammar_table.specs.NodeForms.{form_of}
 use Rattle.grammar_table.proofs.NodeForms.{form_quoted, form_one, form_ahead, form_then, form_or, form_maybe, form_many, form_call}
 use Rattle.es_grammar.specs.declared.stack.Frame.{Frame}
-use Rattle.es_grammar.specs.Turning.{Job, read_or, read_then, may_come, may_come_again, Doing, reads, stayed, missed, State, state, tested, Leads, Absent}
+use Rattle.es_grammar.specs.Turning.{Job, read_or, read_then, may_come, may_come_again, goes_back, Doing, reads, stayed, missed, over, State, state, tested, Leads, Absent}
 use Rattle.es_grammar.specs.Turning.Leads.{once, further}
-use Rattle.es_grammar.specs.Turning.Absent.{no_word, no_one, no_guard, no_first, no_choice, no_rule}
+use Rattle.es_grammar.specs.Turning.Absent.{no_word, no_one, no_guard, no_first, no_maybe, no_many, no_choice, no_rule, no_nested}
 use Rattle.es_grammar.specs.Turning.{looked as looked_at, entered, behind_stay, behind_take, behind_miss, job_of, doing_of}
 use Rattle.es_grammar.specs.declared.reader.Step.{Step}
 use Rattle.es_grammar.specs.declared.reader.Step.TheVariants as step
@@ -26,14 +27,20 @@ use Rattle.es_grammar.specs.Unwinding.{Enters, Leaves}
 use Rattle.es_grammar.proofs.Arms.{at_form}
 use Rattle.es_grammar.proofs.Steps.{enter_misses, enter_or, enter_maybe, enter_many, miss_or, miss_maybe, miss_many}
 
-module _ {tokens : List Sight} {c : Context} {p : Place} where
-  pub absent_misses : {f : Form} → Absent tokens c p.at f → Reads tokens c f p misses
-  absent_misses (no_word e) = reads_as.reads_quoted (ap (taken p) (sym e))
-  absent_misses (no_one e) = reads_as.reads_one (ap (taken p) (sym e))
-  absent_misses (no_guard e) = reads_as.reads_ahead (ap looked (sym e))
-  absent_misses (no_first d) = reads_as.then_ends (absent_misses d) refl
-  absent_misses (no_choice d e) = reads_as.or_second (absent_misses d) (absent_misses e)
-  absent_misses (no_rule d) = reads_as.reads_rule (absent_misses d)
+pub absent_misses : {tokens : List Sight} {c : Context} {p : Place} {f : Form} → Absent tokens c p.at f → Reads tokens c f p misses
+absent_misses {p} (no_word e) = reads_as.reads_quoted (ap (taken p) (sym e))
+absent_misses {p} (no_one e) = reads_as.reads_one (ap (taken p) (sym e))
+absent_misses (no_guard e) = reads_as.reads_ahead (ap looked (sym e))
+absent_misses (no_first d) = reads_as.then_ends (absent_misses d) refl
+absent_misses (no_maybe d e) = reads_as.then_here (reads_as.reads_maybe (absent_misses d) refl) (absent_misses e)
+absent_misses (no_many d e) = reads_as.then_here (reads_as.many_ends (absent_misses d) refl refl) (absent_misses e)
+absent_misses (no_choice d e) = reads_as.or_second (absent_misses d) (absent_misses e)
+absent_misses (no_rule d) = reads_as.reads_rule (absent_misses d)
+absent_misses (no_nested l d) = reads_as.reads_nested l (absent_misses d)
+
+-- what a form leads to that counts as open, where so many may be
+opened_at : List Job → Context → ℕ → Form → Bool → Option State
+opened_at jobs c at a b = Some (if b then state jobs c at over else state (goes_back c ∷ jobs) (deeper c) at (reads a))
 
 module _ {tokens : List Sight} where
   joined : {s t u : State} → Leads tokens s t → Leads tokens t u → Leads tokens s u
@@ -46,9 +53,20 @@ module _ {tokens : List Sight} where
   absent_leads {c} {at} (no_one e) jobs = once (ap (λ b. Some (tested jobs c at b)) e)
   absent_leads {c} {at} (no_guard e) jobs = once (ap (λ b. Some (looked_at jobs c at b)) e)
   absent_leads (no_first {b} d) jobs = further refl (joined (absent_leads d (read_then b ∷ jobs)) (once refl))
+  absent_leads (no_maybe {b} d e) jobs =
+      further refl
+      (further refl
+      (joined (absent_leads d (may_come ∷ read_then b ∷ jobs)) (further refl (further refl (absent_leads e jobs)))))
+  absent_leads (no_many {a} {b} d e) jobs =
+      further refl
+      (further refl
+      (joined (absent_leads d (may_come_again a ∷ read_then b ∷ jobs)) (further refl (further refl (absent_leads e jobs)))))
   absent_leads (no_choice {b} d e) jobs =
       further refl (joined (absent_leads d (read_or b ∷ jobs)) (further refl (absent_leads e jobs)))
   absent_leads (no_rule d) jobs = further refl (absent_leads d jobs)
+  absent_leads {c} {at} (no_nested {a} l d) jobs =
+      further (ap (opened_at jobs c at a) (lt-leb most_open c.opened l))
+      (joined (absent_leads d (goes_back c ∷ jobs)) (once refl))
 
 -- ---- by the node that is passed
 
@@ -120,6 +138,14 @@ module _ (tokens : List Sight) (c : Context) (at : ℕ) (jobs : List Job) {n : N
       from_form tokens c at jobs (state jobs c at stayed) (ap form_of is ∙ form_many a)
       (further refl (joined (absent_leads d (may_come_again (form_of a.now) ∷ jobs)) (once refl)))
 
+  pub leads_call : (r : Rule) → n ≡ node.Call r → Absent tokens c at (rule r)
+      → Leads tokens (state jobs c at (reads (form_of n))) (state jobs c at missed)
+  leads_call r is d = from_form tokens c at jobs (state jobs c at missed) (ap form_of is ∙ form_call r) (absent_leads d jobs)
+
+pub passes_call : {tokens : List Sight} {fs : List Frame} {c : Context} {p : Place} {n : Node} (r : Rule) → n ≡ node.Call r
+    → Absent tokens c p.at (rule r) → Enters tokens fs c p (form_of n) → Leaves tokens fs c p misses
+passes_call r is d enters = enter_misses (absent_misses d) (at_form (ap form_of is ∙ form_call r) enters)
+
 -- ---- one turn
 
 pub enter_leads : {E : Type 0} (tokens : List Sight) (jobs : List Job) (c : Context) (at : ℕ) (form : Form) (after : Step → State)
@@ -146,3 +172,7 @@ module _ (tokens : List Sight) (c : Context) (at : ℕ) (old rest : List Frame) 
 pub on_not : {P : Type 0} (b : Bool) → (b ≡ false → P) → OnTrue (not b) P
 on_not true f = tt
 on_not false f = f refl
+
+pub on_true : {P : Type 0} (b : Bool) → (b ≡ true → P) → OnTrue b P
+on_true true f = f refl
+on_true false f = tt

@@ -4,4 +4,5 @@ pub mod Arms
 pub mod Ends
 pub mod Halting
 pub mod Absences
+pub mod Squares
 pub mod Sayings

@@ -4,7 +4,7 @@
 --     Leads tokens state other      the other state is reached behind one turn or some
 --     Absent tokens context at form      by the token at the place alone, the form misses
 --     TurnsTo tokens state reader turn      where it goes on, it stands at what the state leads to
-use Rattle.std.specs.Prelude.{◌≡◌, ℕ, suc, Bool, true, false, nat_le, List, [], ◌∷◌, map, Option, Some, None, if◌then◌else◌}
+use Rattle.std.specs.Prelude.{◌≡◌, ◌<◌, ℕ, suc, Bool, true, false, nat_le, List, [], ◌∷◌, map, Option, Some, None, if◌then◌else◌}
 use Rattle.grammar_spec.specs.declared.names.Context.{Context}
 use Rattle.grammar_spec.specs.declared.names.Test.{Test}
 use Rattle.grammar_spec.specs.declared.names.Guard.{Guard}
@@ -125,13 +125,20 @@ pub data Leads (tokens : List Sight) : State → State → Type 0 where
 
 -- ---- what can't begin here
 
-pub data Absent (tokens : List Sight) (c : Context) (at : ℕ) : Form → Type 0 where
-  no_word : {word : List ℕ} → is_quoted word tokens at ≡ false → Absent tokens c at (quoted word)
-  no_one : {test : Test} → passes test c.head tokens at ≡ false → Absent tokens c at (one test)
-  no_guard : {guard : Guard} → holds guard tokens at ≡ false → Absent tokens c at (ahead guard)
-  no_first : {a b : Form} → Absent tokens c at a → Absent tokens c at (a ▸ b)
-  no_choice : {a b : Form} → Absent tokens c at a → Absent tokens c at b → Absent tokens c at (a ∣ b)
-  no_rule : {r : Rule} → Absent tokens c at (body r) → Absent tokens c at (rule r)
+pub data Absent (tokens : List Sight) : Context → ℕ → Form → Type 0 where
+  no_word : {c : Context} {at : ℕ} {word : List ℕ} → is_quoted word tokens at ≡ false → Absent tokens c at (quoted word)
+  no_one : {c : Context} {at : ℕ} {test : Test} → passes test c.head tokens at ≡ false → Absent tokens c at (one test)
+  no_guard : {c : Context} {at : ℕ} {guard : Guard} → holds guard tokens at ≡ false → Absent tokens c at (ahead guard)
+  no_first : {c : Context} {at : ℕ} {a b : Form} → Absent tokens c at a → Absent tokens c at (a ▸ b)
+  no_maybe : {c : Context} {at : ℕ} {a b : Form} → Absent tokens c at a → Absent tokens c at b
+      → Absent tokens c at (maybe a ▸ b)
+  no_many : {c : Context} {at : ℕ} {a b : Form} → Absent tokens c at a → Absent tokens c at b
+      → Absent tokens c at (many a ▸ b)
+  no_choice : {c : Context} {at : ℕ} {a b : Form} → Absent tokens c at a → Absent tokens c at b
+      → Absent tokens c at (a ∣ b)
+  no_rule : {c : Context} {at : ℕ} {r : Rule} → Absent tokens c at (body r) → Absent tokens c at (rule r)
+  no_nested : {c : Context} {at : ℕ} {a : Form} → c.opened < most_open → Absent tokens (deeper c) at a
+      → Absent tokens c at (nested a)
 
 -- ---- the reader
 

@@ -6,7 +6,9 @@ ghost use Rattle.es_grammar.specs.Unwinding.{TurnsAt, TellsOf};
 ghost use Rattle.es_grammar.specs.Turning.{entered, behind_stay, behind_miss, behind_take, job_of, jobs_of};
 ghost use Rattle.es_grammar.specs.Turning.{state_of, TurnsTo, state, reads, Leads, Absent};
 ghost use Rattle.std.specs.Bool.{OnTrue};
+ghost use Rattle.grammar_spec.specs.Forms.{rule as call};
 ghost use Rattle.grammar_spec.specs.Readings.{stays, misses, is_sole};
+ghost use Rattle.grammar_spec.specs.declared.names.Rule.TheVariants.{Assign};
 
 use crate::stack::{Frame, Stack};
 use grammar_spec::{Context, Rule};
@@ -254,6 +256,29 @@ impl Reader {
         false
     }
 
+    // A `]` stands here, which begins no expression, and few forms are open.
+    fn ends_square(&self, tokens: &Tokens<'_>) -> bool
+        ensures { OnTrue result (Absent tokens.now self.now.context self.now.at (call Assign)) }
+    {
+        if self.context.opened >= MOST_OPEN - 1 {
+            return false;
+        }
+        if !tokens.is_kind(Kind::Punctuator, self.at) {
+            return false;
+        }
+        tokens.quoted(b"]", self.at)
+    }
+
+    // By the token here alone the rule misses, where that is known without reading it.
+    fn begins_none(&self, tokens: &Tokens<'_>, rule: Rule) -> bool
+        ensures { OnTrue result (Absent tokens.now self.now.context self.now.at (call rule)) }
+    {
+        match rule {
+            Rule::Assign => self.ends_square(tokens),
+            _ => false,
+        }
+    }
+
     /// A form is read; one that misses by the token here alone is passed over.
     pub fn open(
         &mut self,
@@ -281,6 +306,12 @@ impl Reader {
             Node::Many(inner) => {
                 if self.lacks(tokens, inner) {
                     return Ok(Step::Stays);
+                }
+                self.enter(tokens, node)
+            }
+            Node::Call(rule) => {
+                if self.begins_none(tokens, rule) {
+                    return Ok(Step::Misses);
                 }
                 self.enter(tokens, node)
             }
