@@ -19,7 +19,7 @@ use std::alloc::Global;
 use std::sync::ledger::Ledger;
 use trace_config::Config;
 use trace_spec::TraceFault;
-use trace_walk::{Tables, walk};
+use trace_walk::{ComputedNames, Tables, walk};
 use tree_model::Folder;
 
 impl TraceAnswers {
@@ -109,5 +109,5 @@ fn tables_again<F: Folder, L: Ledger>(
         kept,
         next,
     };
-    walk(alloc, &mut answers, config)
+    walk(alloc, &mut answers, &mut ComputedNames {}, config)
 }

@@ -5,6 +5,7 @@
 mod answerer;
 mod following;
 mod module;
+mod namer;
 mod names;
 mod referrer;
 mod refusals;
@@ -16,6 +17,7 @@ mod visits;
 pub use answerer::{Answerer, NodeAnswer};
 pub use module::Module;
 pub use module_sources::{NoSource, Source};
+pub use namer::{ComputedNames, Namer};
 pub use spelling::Spelling;
 pub use tables::{Name, Tables};
 pub use visits::walk;

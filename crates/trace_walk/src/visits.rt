@@ -17,6 +17,7 @@ ghost use Rattle.trace_walk.specs.Shown.{before_of, done, traced_of, specifiers_
 use crate::answerer::Answerer;
 use crate::following::follow;
 use crate::module::Module;
+use crate::namer::Namer;
 use crate::names::served_url;
 use crate::referrer::Referrer;
 use crate::refusals::{no_source, shown, shown_target};
@@ -31,9 +32,10 @@ use trace_spec::TraceFault;
 use web_url::Suffix;
 
 /// Walks from the page: follows its requests, and then those of each module, in the order in which they were asked for.
-pub fn walk<A: Answerer>(
+pub fn walk<A: Answerer, N: Namer>(
     alloc: Global,
     answerer: &mut A,
+    namer: &mut N,
     config: &Config,
 ) -> Result<Tables, TraceFault>
     requires ready { A.ready answerer.old }
@@ -42,15 +44,16 @@ pub fn walk<A: Answerer>(
     ensures ready { OnOk result (A.ready answerer.new) }
 {
     let mut tables = Tables::new(alloc);
-    visit_page(alloc, answerer, config, &mut tables)?;
-    visit_modules(alloc, answerer, config, &mut tables)?;
+    visit_page(alloc, answerer, namer, config, &mut tables)?;
+    visit_modules(alloc, answerer, namer, config, &mut tables)?;
     Ok(tables)
 }
 
 // The page's visit, before anything is in the tables.
-fn visit_page<A: Answerer>(
+fn visit_page<A: Answerer, N: Namer>(
     alloc: Global,
     answerer: &mut A,
+    namer: &mut N,
     config: &Config,
     tables: &mut Tables,
 ) -> Result<(), TraceFault>
@@ -65,7 +68,7 @@ fn visit_page<A: Answerer>(
 {
     let referrer = page_referrer(alloc, config)?;
     let entries = Specifiers::Entries(config.entries());
-    follow_all(alloc, answerer, config, tables, &referrer, entries)
+    follow_all(alloc, answerer, namer, config, tables, &referrer, entries)
 }
 
 // The page as it makes requests, where it can be served.
@@ -86,9 +89,10 @@ fn page_referrer(alloc: Global, config: &Config) -> Result<Referrer, TraceFault>
 }
 
 // Follows the requests of a referrer in order.
-fn follow_all<A: Answerer>(
+fn follow_all<A: Answerer, N: Namer>(
     alloc: Global,
     answerer: &mut A,
+    namer: &mut N,
     config: &Config,
     tables: &mut Tables,
     referrer: &Referrer,
@@ -108,16 +112,17 @@ fn follow_all<A: Answerer>(
     let mut next = 0;
     while next < specifiers.len() {
         let specifier = specifiers.at(next).unwrap();
-        follow(alloc, answerer, config, tables, referrer, specifier)?;
+        follow(alloc, answerer, namer, config, tables, referrer, specifier)?;
         next += 1;
     }
     Ok(())
 }
 
 // The visits of the modules, until the last one in the table had its visit.
-fn visit_modules<A: Answerer>(
+fn visit_modules<A: Answerer, N: Namer>(
     alloc: Global,
     answerer: &mut A,
+    namer: &mut N,
     config: &Config,
     tables: &mut Tables,
 ) -> Result<(), TraceFault>
@@ -134,16 +139,17 @@ fn visit_modules<A: Answerer>(
 {
     let mut place = 0;
     while place < tables.modules.len() {
-        visit(alloc, answerer, config, tables, place)?;
+        visit(alloc, answerer, namer, config, tables, place)?;
         place += 1;
     }
     Ok(())
 }
 
 // The visit of the module at a place of the table.
-fn visit<A: Answerer>(
+fn visit<A: Answerer, N: Namer>(
     alloc: Global,
     answerer: &mut A,
+    namer: &mut N,
     config: &Config,
     tables: &mut Tables,
     place: usize,
@@ -161,13 +167,14 @@ fn visit<A: Answerer>(
 {
     let (module, name) = tables.modules.get_index(place).unwrap();
     let referrer = referrer_of(alloc, module, name)?;
-    visit_module(alloc, answerer, config, tables, &referrer)
+    visit_module(alloc, answerer, namer, config, tables, &referrer)
 }
 
 // The visit of a module.
-fn visit_module<A: Answerer>(
+fn visit_module<A: Answerer, N: Namer>(
     alloc: Global,
     answerer: &mut A,
+    namer: &mut N,
     config: &Config,
     tables: &mut Tables,
     referrer: &Referrer,
@@ -187,7 +194,7 @@ fn visit_module<A: Answerer>(
             let requests = Rc::clone(&source.requests)?;
             push_source(&mut tables.sources, source)?;
             let specifiers = Specifiers::Requests(&requests);
-            follow_all(alloc, answerer, config, tables, referrer, specifiers)
+            follow_all(alloc, answerer, namer, config, tables, referrer, specifiers)
         }
         Err(why) => Err(no_source(alloc, referrer, why)?),
     }
