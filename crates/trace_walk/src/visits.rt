@@ -18,9 +18,8 @@ use crate::answerer::Answerer;
 use crate::following::follow;
 use crate::module::Module;
 use crate::namer::Namer;
-use crate::names::served_url;
 use crate::referrer::Referrer;
-use crate::refusals::{no_source, shown, shown_target};
+use crate::refusals::{no_source, shown_target};
 use crate::specifiers::Specifiers;
 use crate::tables::{Name, Tables};
 use module_sources::Source;
@@ -66,26 +65,26 @@ fn visit_page<A: Answerer, N: Namer>(
         (A.state answerer.old).steps (A.state answerer.new).steps (A.ready answerer.new) result }
     ensures counts { OnOk result (Counts (length config.now.entries) tables.old tables.new) }
 {
-    let referrer = page_referrer(alloc, config)?;
+    let referrer = page_referrer(alloc, namer, config)?;
     let entries = Specifiers::Entries(config.entries());
     follow_all(alloc, answerer, namer, config, tables, &referrer, entries)
 }
 
 // The page as it makes requests, where it can be served.
-fn page_referrer(alloc: Global, config: &Config) -> Result<Referrer, TraceFault>
+fn page_referrer<N: Namer>(
+    alloc: Global,
+    namer: &mut N,
+    config: &Config,
+) -> Result<Referrer, TraceFault>
     ensures served { IfOk result (λ referrer. IsReferrer config.now the_page referrer
         × (served_at config.now the_page ≡ Some referrer.name)) }
     ensures unserved { IfErr result (λ fault. fault ≢ TraceFault.Memory
         → IsUnserved config.now config.now.page [] fault) }
 {
-    let suffix = Suffix::none(alloc);
-    let name = served_url(alloc, config, config.page(), &suffix)?;
-    Ok(Referrer {
-        text: Text::of(alloc, name.as_str())?,
-        path: config.page().copy(alloc)?,
-        shown: shown(alloc, config.page(), &suffix)?,
-        name,
-    })
+    let page = Module::new(config.page().copy(alloc)?, Suffix::none(alloc));
+    let name = namer.name(alloc, config, &page)?;
+    let referrer = referrer_of(alloc, &page, &name)?;
+    Ok(referrer)
 }
 
 // Follows the requests of a referrer in order.
