@@ -90,8 +90,8 @@ impl KeptAsk {
     }
 }
 
-/// The names of modules and what requests ask for, which are kept from one walk to the next. Each is given only where all
-/// that it depends on is the same, so nobody has to tell what has changed.
+/// The names of modules and what requests ask for, which are kept from one walk to the next. Each is given only where
+/// all that it depends on is the same, so nobody has to tell what has changed.
 #[derive(Drop)]
 pub struct KeptNames {
     names: HashMap<Module, KeptName>,
