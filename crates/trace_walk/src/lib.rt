@@ -4,6 +4,7 @@
 
 mod answerer;
 mod following;
+mod kept_names;
 mod module;
 mod namer;
 mod names;
@@ -15,6 +16,7 @@ mod tables;
 mod visits;
 
 pub use answerer::{Answerer, NodeAnswer};
+pub use kept_names::KeptNames;
 pub use module::Module;
 pub use module_sources::{NoSource, Source};
 pub use namer::{ComputedNames, Namer};

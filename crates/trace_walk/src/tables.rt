@@ -37,6 +37,18 @@ pub struct Name {
     pub text: Text,
 }
 
+impl Name {
+    /// An equal name. Its text shares the memory of this one's.
+    pub(crate) fn copy(&self, alloc: Global) -> Result<Name, Memory>
+        ensures { IfOk result (λ copy. copy ≡ self.now) }
+    {
+        Ok(Name {
+            url: self.url.copy(alloc)?,
+            text: self.text.copy(alloc)?,
+        })
+    }
+}
+
 /// The tables of a walk: the modules in trace order with their names, the sources of those that had their visits, the
 /// needs, how each of them is first spelled, and to each request, in their order, the place of the module that it leads
 /// to.
