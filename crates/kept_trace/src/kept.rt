@@ -6,6 +6,7 @@ use kept_answers::{KeptModules, KeptRequests};
 use shared_types::Memory;
 use std::alloc::Global;
 use std::mem;
+use trace_walk::KeptNames;
 
 /// What is kept of a walk's answers: the sources of modules, and where requests lead under some conditions.
 #[derive(Drop)]
@@ -34,11 +35,15 @@ impl Kept {
     }
 }
 
-/// What is kept of the answers of a walk, and what is kept for the next one, under the same conditions.
+/// What is kept of the answers of a walk, and what is kept for the next one, under the same conditions. Names are kept
+/// beside both: whatever they are, each walk may take them.
 #[derive(Drop)]
 pub struct TraceAnswers {
     pub(crate) kept: Kept,
     pub(crate) next: Kept,
+    pub(crate) names: KeptNames,
+    // The number of modules of the last trace.
+    pub(crate) modules: usize,
     ghost under: { AreUnderOne kept next },
 }
 
@@ -51,10 +56,12 @@ impl TraceAnswers {
         Ok(TraceAnswers {
             kept: Kept::new(alloc, conditions)?,
             next: Kept::new(alloc, conditions)?,
+            names: KeptNames::new(alloc),
+            modules: 0,
         })
     }
 
-    /// What was kept for the next walk is what is kept, and the other way round.
+    /// What was kept for the next walk is what is kept, and the other way round. The names stay.
     pub fn exchange(&mut self)
         ensures kept { self.new.kept ≡ self.old.next }
         ensures next { self.new.next ≡ self.old.kept }

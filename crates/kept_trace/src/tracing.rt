@@ -19,7 +19,7 @@ use std::alloc::Global;
 use std::sync::ledger::Ledger;
 use trace_config::Config;
 use trace_spec::TraceFault;
-use trace_walk::{Tables, walk};
+use trace_walk::{KeptNames, Tables, walk};
 use tree_model::Folder;
 
 impl TraceAnswers {
@@ -52,6 +52,7 @@ impl TraceAnswers {
             (λ tree. AreAllRight self.old.kept → AreAllRight self.new.next) }
     {
         self.next.clear();
+        self.names.begin(self.modules);
         let mut trail = Trail::new(alloc);
         let tables = tables_again(
             alloc,
@@ -62,7 +63,9 @@ impl TraceAnswers {
             steps,
             &self.kept,
             &mut self.next,
+            &mut self.names,
         )?;
+        self.modules = tables.modules.len();
         let trace = trace_of(alloc, config, tables, trail)?;
         Ok(trace)
     }
@@ -78,6 +81,7 @@ fn tables_again<F: Folder, L: Ledger>(
     steps: &mut Steps<L>,
     kept: &Kept,
     next: &mut Kept,
+    names: &mut KeptNames,
 ) -> Result<Tables, TraceFault>
     requires first { trail.old ≡ no_trail }
     requires under { AreUnderOne kept.now next.old }
@@ -109,5 +113,5 @@ fn tables_again<F: Folder, L: Ledger>(
         kept,
         next,
     };
-    walk(alloc, &mut answers, config)
+    walk(alloc, &mut answers, names, config)
 }

@@ -1,10 +1,11 @@
 mod ReadingLemmas
 pub mod PathSets
-mod LookCounts
+pub mod LookCounts
 mod SightAnswers
 mod Folders
 pub mod Reaching
 pub mod Sights
+pub mod NotedPaths
 mod Growing
 pub mod Questions
 pub mod Learnings

@@ -1,7 +1,9 @@
 pub mod SeenLooks
+pub mod SharedPaths
 pub mod Readings
 pub mod Looked
 pub mod Trails
+pub mod Space
 pub mod Responses
 pub mod Answered
 pub mod Learning

@@ -2,6 +2,7 @@
 --     entry_of seen                what stands at a path that was looked at
 --     look_seen seen               the look that saw it
 --     look_of seen                 the same; none is a file above the limit
+--     Shows known seen             what a known look saw; none where none is known, or it saw a file above the limit
 --     bytes_of look                the bytes of the file that was seen
 --     within_limit look            the look, where a file above the limit is too large
 --     IsWithin known               a look is known, and it saw no file above the limit
@@ -29,6 +30,10 @@ look_seen (seen.File bytes) = File bytes.value
 abbrev pub look_of : Option Seen → Look
 look_of None = TooLarge
 look_of (Some found) = look_seen found
+
+abbrev pub Shows : Option Look → Option Seen → Type 0
+Shows None seen = seen ≡ None
+Shows (Some look) seen = look_of seen ≡ look
 
 abbrev pub bytes_of : Look → Option (List ℕ)
 bytes_of Absent = None

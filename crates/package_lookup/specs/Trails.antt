@@ -2,12 +2,15 @@
 --     has_room trail path                a look at the path isn't one path too many
 --     OnCount old counted result new     the call does what counting the look tells
 --     IsCounted shown old path result new      a look that answers is counted, and one that passes a limit leaves the trail
+--     asked_again trail paths            the trail, where a question begins that asked these paths
+--     passed trail path size             the trail behind a look at a path with so many bytes, in no question
 --     Lengthens before after             the paths before are the first of those after, and the size doesn't fall
 --     HasRoom limits sights trail path   the look at the path isn't refused as one path too many, before it is made
 --     IsReached limits sights trail paths path
 --                                        of looks at these paths one after another, one is at this path, those before
 --                                        it pass no limit, and there is room for it
-use Rattle.std.specs.Prelude.{◌≡◌, ◌≢◌, ◌≤◌, ◌||◌, ◌++◌, ◌∷◌, ℕ, nat_lt, Bool, List, length, Option, Result, Ok, Err, ⊤}
+use Rattle.std.specs.Prelude.{◌≡◌, ◌≢◌, ◌≤◌, ◌||◌, ◌+◌, ◌++◌, [], ◌∷◌, ℕ, nat_lt, Bool, List, length, Option, Result, Ok, Err, ⊤}
+use Rattle.std.specs.Prelude.{if◌then◌else◌}
 use Rattle.asking_spec.specs.Evaluation.{ends, evaluated}
 use Rattle.tree_spec.specs.LookAskings.{Sights, look_at_each, is_seen}
 use Rattle.tree_spec.specs.LookLimits.{LookLimits, Trail, look_limits, counted, limited}
@@ -35,6 +38,15 @@ IsCounted shown old path (Err (Limit which)) new = new ≡ old
 IsCounted shown old path (Err ReadFault) new = ⊤
 IsCounted shown old path (Err Memory) new = ⊤
 IsCounted shown old path (Err InvalidConfig) new = ⊤
+
+abbrev pub asked_again : Trail → List (List ℕ) → Trail
+asked_again trail paths = record { paths = trail.paths; size = trail.size; question = paths }
+
+-- own: whatever the limits are
+abbrev pub passed : Trail → List ℕ → ℕ → Trail
+passed trail path size =
+    if is_seen path trail.paths then trail
+    else record { paths = trail.paths ++ path ∷ []; size = trail.size + size; question = trail.question }
 
 -- own: whatever a call comes to, nothing that was counted is taken back
 pub record Lengthens (before after : Trail) : Type 0 where

@@ -136,6 +136,16 @@ impl Held {
         }
     }
 
+    /// What was seen, none where that is a file above the limit.
+    pub fn seen(&self) -> Option<&Seen>
+        ensures { look_of (option_copied result) ≡ self.now }
+    {
+        match &self.seen {
+            None => None,
+            Some(seen) => Some(seen),
+        }
+    }
+
     /// An equal one, with all bytes and records shared.
     pub fn copy(&self) -> Result<Held, Memory>
         ensures { IfOk result (λ copy. copy ≡ self.now) }

@@ -3,7 +3,7 @@ ghost use Rattle.std.specs.Prelude.{option_copied, if◌then◌else◌};
 ghost use Rattle.std.specs.HashMap as map;
 ghost use Rattle.tree_spec.specs.LookAskings.{look_at};
 ghost use Rattle.tree_spec.specs.declared.Look.{Look};
-ghost use Rattle.package_lookup.specs.SeenLooks.{entry_of, look_seen};
+ghost use Rattle.package_lookup.specs.SeenLooks.{entry_of, look_seen, Shows};
 ghost use Rattle.package_lookup.specs.Readings.{IsReadingOf, AreReadingsOf};
 ghost use Rattle.package_lookup.specs.Looked.{kept_at, known_at, laid_at, Grows, IsSameKnown};
 ghost use Rattle.package_lookup.specs.Responses.{looked};
@@ -133,6 +133,16 @@ impl Known {
         match self.find(path) {
             Some(held) => Ok(held.copy()?),
             None => self.fetch(alloc, folder, path),
+        }
+    }
+
+    /// What is known to stand at a path; none where nothing is known, or a file above the limit.
+    pub fn shown(&self, path: &Path) -> Option<&Seen>
+        ensures { Shows (known_at self.now path.now) (option_copied result) }
+    {
+        match self.find(path) {
+            None => None,
+            Some(held) => held.seen(),
         }
     }
 

@@ -14,6 +14,7 @@ mod known;
 mod lookup;
 mod over;
 mod packages;
+mod question;
 mod trail;
 
 pub use fault::LookupFault;

@@ -1,27 +1,30 @@
-ghost use Rattle.std.specs.Prelude.{◌≡◌, ◌||◌, ◌<◌, ◌++◌, ◌∷◌, [], ℕ, nat_lt, length, Option, Ok, true, false, OnOk};
-ghost use Rattle.std.specs.Prelude.{OnErr, IfOk};
+ghost use Rattle.std.specs.Prelude.{◌≡◌, ◌≤◌, ◌||◌, ◌<◌, ◌+◌, ◌-◌, ◌++◌, ◌∷◌, [], ℕ, nat_lt, length, Option, Ok, true};
+ghost use Rattle.std.specs.Prelude.{false, OnOk, OnErr, IfOk, bytes_eq};
+ghost use Rattle.std.specs.Bool.{Decides};
+ghost use Rattle.std.specs.List.{IsDistinct};
 ghost use Rattle.tree_spec.specs.LookAskings.{is_seen, with_seen};
 ghost use Rattle.tree_spec.specs.LookLimits.{begun, counted, look_limits, no_trail, seen_again, size_at};
 ghost use Rattle.tree_spec.specs.declared.Entry.{Entry};
-ghost use Rattle.package_lookup.specs.Trails.{has_room, Lengthens, OnCount};
+ghost use Rattle.package_lookup.specs.Space.{HasSpace};
+ghost use Rattle.package_lookup.specs.Trails.{asked_again, has_room, passed, Lengthens, OnCount};
 
 use crate::LookupFault;
+use crate::question::Question;
 use indexmap::IndexSet;
 use shared_types::Memory;
 use std::alloc::Global;
 use std::marker::Model;
+use std::rc::Rc;
 use tree_model::{Path, Paths};
 use tree_spec::{LimitName, MOST_BYTES, MOST_FILE_BYTES, MOST_LOOKS};
 
 /// The distinct paths that one generation looked at, how many bytes the files among them have together, and the
-/// distinct paths of the present question.
+/// distinct paths of the present question, which may be shared with what is kept of it.
 #[derive(Drop)]
 pub struct Trail {
-    alloc: Global,
     paths: IndexSet<Path>,
     size: u64,
-    question: Paths,
-    asked: IndexSet<Path>,
+    question: Question,
 }
 
 impl Model for Trail {
@@ -31,8 +34,6 @@ impl Model for Trail {
     ghost Value = { spec.Trail };
 
     ghost view = { λ trail. record { paths = trail.paths.keys; size = trail.size; question = trail.question } };
-
-    ghost invariant = { λ trail. trail.asked.keys ≡ trail.question };
 }
 
 impl Trail {
@@ -41,11 +42,9 @@ impl Trail {
         ensures { result ≡ no_trail }
     {
         Trail {
-            alloc,
             paths: IndexSet::new(alloc),
             size: 0,
-            question: Paths::new(alloc),
-            asked: IndexSet::new(alloc),
+            question: Question::new(alloc),
         }
     }
 
@@ -53,8 +52,15 @@ impl Trail {
     pub fn begin(&mut self)
         ensures { self.new ≡ begun self.old }
     {
-        self.question = Paths::new(self.alloc);
-        self.asked.clear();
+        self.question.clear();
+    }
+
+    /// Begins a question that asked all of these paths, each once.
+    pub fn ask_again(&mut self, paths: Rc<Paths>)
+        requires { IsDistinct bytes_eq paths.value }
+        ensures { self.new ≡ asked_again self.old paths.value }
+    {
+        self.question.share(paths);
     }
 
     /// All paths at which was looked, in the order of first looks.
@@ -66,9 +72,41 @@ impl Trail {
 
     /// The paths at which the present question looked, in the order of first looks.
     pub fn question(&self) -> &Paths
-        ensures { result.now ≡ self.now.question }
+        ensures question { result.now ≡ self.now.question }
+        ensures distinct { IsDistinct bytes_eq result.now }
     {
-        &self.question
+        self.question.paths()
+    }
+
+    /// How many bytes more pass no limit.
+    pub fn bytes_left(&self) -> u64
+        ensures { result ≡ look_limits.bytes - self.now.size }
+    {
+        MOST_BYTES.saturating_sub(self.size)
+    }
+
+    /// Whether so many paths more, with so many bytes together, pass no limit.
+    pub fn has_space(&self, looks: usize, bytes: u64) -> bool
+        ensures { Decides result (HasSpace self.now looks bytes) }
+    {
+        let many = self.paths.len().saturating_add(looks);
+        let heavy = self.size.saturating_add(bytes);
+        many <= MOST_LOOKS && heavy <= MOST_BYTES
+    }
+
+    /// Counts a look at a path at which so many bytes stand, in no question. That it passes no limit is for the
+    /// caller to see, by [`Trail::has_space`].
+    pub fn pass(&mut self, alloc: Global, path: &Path, size: u64) -> Result<(), Memory>
+        requires { self.old.size + size ≤ look_limits.bytes }
+        ensures passes { OnOk result (self.new ≡ passed self.old path.now size) }
+        ensures grows { Lengthens self.old self.new }
+    {
+        if !self.paths.contains(path) {
+            let first = path.copy(alloc)?;
+            self.add(first)?;
+            self.size += size;
+        }
+        Ok(())
     }
 
     /// Whether a look at a path isn't one path too many.
@@ -145,15 +183,7 @@ impl Trail {
         ensures noted { OnOk result (self.new ≡ seen_again self.old path.now) }
         ensures grows { Lengthens self.old self.new }
     {
-        if self.asked.contains(path) {
-            return Ok(());
-        }
-        let first = path.copy(alloc)?;
-        let second = path.copy(alloc)?;
-        self.asked.reserve(1)?;
-        self.question.push(first)?;
-        self.asked.insert(second)?;
-        Ok(())
+        self.question.note(alloc, path)
     }
 }
 

@@ -14,7 +14,7 @@ use std::alloc::Global;
 use std::sync::ledger::Ledger;
 use trace_config::Config;
 use trace_spec::TraceFault;
-use trace_walk::{Tables, walk};
+use trace_walk::{ComputedNames, Tables, walk};
 use tree_model::Folder;
 
 /// The trace of a folder and a config, or its first refusal. No path is looked at that is known, none twice, and none
@@ -84,5 +84,5 @@ fn tables_of<F: Folder, L: Ledger>(
         },
         steps,
     };
-    walk(alloc, &mut answers, config)
+    walk(alloc, &mut answers, &mut ComputedNames {}, config)
 }

@@ -1,6 +1,6 @@
 -- The referrers of needs are URLs.
-use Rattle.std.proofs.Common.{◌≡◌, ◌<◌, ℕ, List, [], ◌∷◌, ◌++◌, length, sym, ap, subst, arith}
-use Rattle.std.specs.Prelude.{true, false, slice_get, Some}
+use Rattle.std.proofs.Common.{◌≡◌, ◌<◌, ℕ, List, [], ◌∷◌, ◌++◌, length, sym, subst, arith}
+use Rattle.std.specs.Prelude.{slice_get, Some}
 use Rattle.std.specs.List.{list_any}
 use mathlib.Core.Logic.{inl, inr}
 use Rattle.std.proofs.lemmas.Bool.{cases_Bool, cond-true, cond-false}

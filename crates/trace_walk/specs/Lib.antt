@@ -1,6 +1,7 @@
 pub mod Meeting
 pub mod Shown
 pub mod Kinds
+pub mod Naming
 pub mod Walking
 pub mod Refusing
 pub mod Putting

@@ -13,6 +13,7 @@ ghost use Rattle.trace_walk.specs.Shown.{before_of, done};
 
 use crate::answerer::{Answerer, NodeAnswer};
 use crate::module::Module;
+use crate::namer::Namer;
 use crate::referrer::Referrer;
 use crate::refusals::refusal;
 use crate::tables::Tables;
@@ -24,9 +25,10 @@ use tree_spec::{LimitName, MOST_REQUESTS, MOST_SPECIFIER_BYTES};
 use web_url::{AskFault, Asked, ask};
 
 /// Follows one request of a referrer: what it asks for, where Node leads it, and its place in the tables.
-pub(crate) fn follow<A: Answerer>(
+pub(crate) fn follow<A: Answerer, N: Namer>(
     alloc: Global,
     answerer: &mut A,
+    namer: &mut N,
     config: &Config,
     tables: &mut Tables,
     referrer: &Referrer,
@@ -41,13 +43,13 @@ pub(crate) fn follow<A: Answerer>(
     ensures one { IsOneRequest config.now (IsUrl referrer.now.text) tables.old tables.new
         (A.state answerer.old).steps (A.state answerer.new).steps (A.ready answerer.new) result }
 {
-    let asked = check(alloc, tables.targets.len(), referrer, specifier)?;
+    let asked = check(alloc, namer, tables.targets.len(), referrer, specifier)?;
     let conditions = config.conditions();
     match answerer.request(alloc, conditions, &referrer.path, specifier.as_str())? {
         NodeAnswer::Resolved(module) => {
             let (path, suffix) = module.into_parts();
             let target = Module::new(path, suffix);
-            tables.put(alloc, config, referrer, specifier, asked, target)
+            tables.put(alloc, namer, config, referrer, specifier, asked, target)
         }
         NodeAnswer::Refused { cause } => {
             Err(refusal(alloc, referrer, specifier, AskCause::from(cause))?)
@@ -59,8 +61,9 @@ pub(crate) fn follow<A: Answerer>(
 }
 
 // What a request asks for, where one more is allowed and its specifier isn't too long.
-fn check(
+fn check<N: Namer>(
     alloc: Global,
+    namer: &mut N,
     requests: usize,
     referrer: &Referrer,
     specifier: &Text,
@@ -82,11 +85,15 @@ fn check(
             which: LimitName::Specifier,
         });
     }
-    asked_text(alloc, referrer, specifier)
+    namer.asked(alloc, referrer, specifier)
 }
 
-// The normalized specifier of a referrer, by which it is asked for.
-fn asked_text(alloc: Global, referrer: &Referrer, specifier: &Text) -> Result<Text, TraceFault>
+/// The normalized specifier of a referrer, by which it is asked for.
+pub(crate) fn asked_text(
+    alloc: Global,
+    referrer: &Referrer,
+    specifier: &Text,
+) -> Result<Text, TraceFault>
     ensures wanted { IfOk result (λ asked. wanted_by specifier.now (Some referrer.now.name)
         ≡ Ok (record { referrer = referrer.now.name; asked = asked })) }
     ensures unwanted { IfErr result (λ fault. fault ≢ TraceFault.Memory

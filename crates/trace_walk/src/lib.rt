@@ -4,7 +4,9 @@
 
 mod answerer;
 mod following;
+mod kept_names;
 mod module;
+mod namer;
 mod names;
 mod referrer;
 mod refusals;
@@ -14,8 +16,10 @@ mod tables;
 mod visits;
 
 pub use answerer::{Answerer, NodeAnswer};
+pub use kept_names::KeptNames;
 pub use module::Module;
 pub use module_sources::{NoSource, Source};
+pub use namer::{ComputedNames, Namer};
 pub use spelling::Spelling;
 pub use tables::{Name, Tables};
 pub use visits::walk;

@@ -15,7 +15,8 @@ ghost use Rattle.trace_walk.specs.Walking.{IsReferrer, AllNamed, AreBeside, AreE
 ghost use Rattle.trace_walk.specs.Shown.{before_of, done};
 
 use crate::module::Module;
-use crate::names::{is_folder_url, served_url};
+use crate::namer::Namer;
+use crate::names::is_folder_url;
 use crate::referrer::Referrer;
 use crate::refusals::{clash, refusal};
 use crate::spelling::Spelling;
@@ -34,6 +35,18 @@ use web_url::WebUrl;
 pub struct Name {
     pub url: WebUrl,
     pub text: Text,
+}
+
+impl Name {
+    /// An equal name. Its text shares the memory of this one's.
+    pub(crate) fn copy(&self, alloc: Global) -> Result<Name, Memory>
+        ensures { IfOk result (λ copy. copy ≡ self.now) }
+    {
+        Ok(Name {
+            url: self.url.copy(alloc)?,
+            text: self.text.copy(alloc)?,
+        })
+    }
 }
 
 /// The tables of a walk: the modules in trace order with their names, the sources of those that had their visits, the
@@ -64,9 +77,10 @@ impl Tables {
 
     /// Puts a request that leads to this module into the tables, where the module is served at its web name, which is
     /// no folder's: its need, unless it clashes with one before it, and its module, unless there are too many.
-    pub(crate) fn put(
+    pub(crate) fn put<N: Namer>(
         &mut self,
         alloc: Global,
+        namer: &mut N,
         config: &Config,
         referrer: &Referrer,
         specifier: &Text,
@@ -87,7 +101,7 @@ impl Tables {
                 alloc, config, referrer, specifier, asked, &target, known,
             ),
             None => {
-                let name = name_of(alloc, config, referrer, specifier, &target)?;
+                let name = name_of(alloc, namer, config, referrer, specifier, &target)?;
                 self.put_new(alloc, config, referrer, specifier, asked, target, name)
             }
         }
@@ -212,8 +226,9 @@ fn spelling_of(
 }
 
 // The web name of what a request leads to; its refusal where it isn't served there, or the name is a folder's.
-fn name_of(
+fn name_of<N: Namer>(
     alloc: Global,
+    namer: &mut N,
     config: &Config,
     referrer: &Referrer,
     specifier: &Text,
@@ -224,12 +239,11 @@ fn name_of(
     ensures misnamed { IfErr result (λ fault. fault ≢ TraceFault.Memory
         → IsMisnamed config.now referrer.now specifier.now target.now fault) }
 {
-    let url = served_url(alloc, config, target.path(), target.suffix())?;
-    if is_folder_url(&url) {
+    let name = namer.name(alloc, config, target)?;
+    if is_folder_url(&name.url) {
         return Err(refusal(alloc, referrer, specifier, AskCause::TrailingSlash)?);
     }
-    let text = Text::of(alloc, url.as_str())?;
-    Ok(Name { url, text })
+    Ok(name)
 }
 
 // A module that is known: its place, and the text of its name.

@@ -17,9 +17,9 @@ ghost use Rattle.trace_walk.specs.Shown.{before_of, done, traced_of, specifiers_
 use crate::answerer::Answerer;
 use crate::following::follow;
 use crate::module::Module;
-use crate::names::served_url;
+use crate::namer::Namer;
 use crate::referrer::Referrer;
-use crate::refusals::{no_source, shown, shown_target};
+use crate::refusals::{no_source, shown_target};
 use crate::specifiers::Specifiers;
 use crate::tables::{Name, Tables};
 use module_sources::Source;
@@ -31,9 +31,10 @@ use trace_spec::TraceFault;
 use web_url::Suffix;
 
 /// Walks from the page: follows its requests, and then those of each module, in the order in which they were asked for.
-pub fn walk<A: Answerer>(
+pub fn walk<A: Answerer, N: Namer>(
     alloc: Global,
     answerer: &mut A,
+    namer: &mut N,
     config: &Config,
 ) -> Result<Tables, TraceFault>
     requires ready { A.ready answerer.old }
@@ -42,15 +43,16 @@ pub fn walk<A: Answerer>(
     ensures ready { OnOk result (A.ready answerer.new) }
 {
     let mut tables = Tables::new(alloc);
-    visit_page(alloc, answerer, config, &mut tables)?;
-    visit_modules(alloc, answerer, config, &mut tables)?;
+    visit_page(alloc, answerer, namer, config, &mut tables)?;
+    visit_modules(alloc, answerer, namer, config, &mut tables)?;
     Ok(tables)
 }
 
 // The page's visit, before anything is in the tables.
-fn visit_page<A: Answerer>(
+fn visit_page<A: Answerer, N: Namer>(
     alloc: Global,
     answerer: &mut A,
+    namer: &mut N,
     config: &Config,
     tables: &mut Tables,
 ) -> Result<(), TraceFault>
@@ -63,32 +65,33 @@ fn visit_page<A: Answerer>(
         (A.state answerer.old).steps (A.state answerer.new).steps (A.ready answerer.new) result }
     ensures counts { OnOk result (Counts (length config.now.entries) tables.old tables.new) }
 {
-    let referrer = page_referrer(alloc, config)?;
+    let referrer = page_referrer(alloc, namer, config)?;
     let entries = Specifiers::Entries(config.entries());
-    follow_all(alloc, answerer, config, tables, &referrer, entries)
+    follow_all(alloc, answerer, namer, config, tables, &referrer, entries)
 }
 
 // The page as it makes requests, where it can be served.
-fn page_referrer(alloc: Global, config: &Config) -> Result<Referrer, TraceFault>
+fn page_referrer<N: Namer>(
+    alloc: Global,
+    namer: &mut N,
+    config: &Config,
+) -> Result<Referrer, TraceFault>
     ensures served { IfOk result (λ referrer. IsReferrer config.now the_page referrer
         × (served_at config.now the_page ≡ Some referrer.name)) }
     ensures unserved { IfErr result (λ fault. fault ≢ TraceFault.Memory
         → IsUnserved config.now config.now.page [] fault) }
 {
-    let suffix = Suffix::none(alloc);
-    let name = served_url(alloc, config, config.page(), &suffix)?;
-    Ok(Referrer {
-        text: Text::of(alloc, name.as_str())?,
-        path: config.page().copy(alloc)?,
-        shown: shown(alloc, config.page(), &suffix)?,
-        name,
-    })
+    let page = Module::new(config.page().copy(alloc)?, Suffix::none(alloc));
+    let name = namer.name(alloc, config, &page)?;
+    let referrer = referrer_of(alloc, &page, &name)?;
+    Ok(referrer)
 }
 
 // Follows the requests of a referrer in order.
-fn follow_all<A: Answerer>(
+fn follow_all<A: Answerer, N: Namer>(
     alloc: Global,
     answerer: &mut A,
+    namer: &mut N,
     config: &Config,
     tables: &mut Tables,
     referrer: &Referrer,
@@ -108,16 +111,17 @@ fn follow_all<A: Answerer>(
     let mut next = 0;
     while next < specifiers.len() {
         let specifier = specifiers.at(next).unwrap();
-        follow(alloc, answerer, config, tables, referrer, specifier)?;
+        follow(alloc, answerer, namer, config, tables, referrer, specifier)?;
         next += 1;
     }
     Ok(())
 }
 
 // The visits of the modules, until the last one in the table had its visit.
-fn visit_modules<A: Answerer>(
+fn visit_modules<A: Answerer, N: Namer>(
     alloc: Global,
     answerer: &mut A,
+    namer: &mut N,
     config: &Config,
     tables: &mut Tables,
 ) -> Result<(), TraceFault>
@@ -134,16 +138,17 @@ fn visit_modules<A: Answerer>(
 {
     let mut place = 0;
     while place < tables.modules.len() {
-        visit(alloc, answerer, config, tables, place)?;
+        visit(alloc, answerer, namer, config, tables, place)?;
         place += 1;
     }
     Ok(())
 }
 
 // The visit of the module at a place of the table.
-fn visit<A: Answerer>(
+fn visit<A: Answerer, N: Namer>(
     alloc: Global,
     answerer: &mut A,
+    namer: &mut N,
     config: &Config,
     tables: &mut Tables,
     place: usize,
@@ -161,13 +166,14 @@ fn visit<A: Answerer>(
 {
     let (module, name) = tables.modules.get_index(place).unwrap();
     let referrer = referrer_of(alloc, module, name)?;
-    visit_module(alloc, answerer, config, tables, &referrer)
+    visit_module(alloc, answerer, namer, config, tables, &referrer)
 }
 
 // The visit of a module.
-fn visit_module<A: Answerer>(
+fn visit_module<A: Answerer, N: Namer>(
     alloc: Global,
     answerer: &mut A,
+    namer: &mut N,
     config: &Config,
     tables: &mut Tables,
     referrer: &Referrer,
@@ -187,7 +193,7 @@ fn visit_module<A: Answerer>(
             let requests = Rc::clone(&source.requests)?;
             push_source(&mut tables.sources, source)?;
             let specifiers = Specifiers::Requests(&requests);
-            follow_all(alloc, answerer, config, tables, referrer, specifiers)
+            follow_all(alloc, answerer, namer, config, tables, referrer, specifiers)
         }
         Err(why) => Err(no_source(alloc, referrer, why)?),
     }

@@ -3,7 +3,7 @@ use Rattle.trace_spec.specs.Walking.{a_module}
 use Rattle.trace_walk.proofs.FaultKinds.{unserved_kind}
 use Rattle.trace_walk.proofs.tables.name_of.Goals as goal
 
-pub returns-in_err-url-clause-named : goal.returns-in_err-url-clause-named
-returns-in_err-url-clause-named c =
+pub returns-in_err-name-clause-named : goal.returns-in_err-name-clause-named
+returns-in_err-name-clause-named g c =
     let p = err_from_is_err_and c.from_residual.result c.from_residual.ensures.1 in
-    rw (p.1, p.2) (unserved_kind c.args.config.now (a_module c.args.target.now) c.in_err-url.field-0.0 (rw (c.path.ensures, c.suffix.ensures) at c.in_err-url.ensures.unserved))
+    rw (p.1, p.2) (unserved_kind c.args.config.now (a_module c.args.target.now) c.in_err-name.field-0.0 c.in_err-name.ensures.unserved)
