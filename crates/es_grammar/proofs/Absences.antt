@@ -39,7 +39,7 @@ absent_misses (no_rule d) = reads_as.reads_rule (absent_misses d)
 absent_misses (no_nested l d) = reads_as.reads_nested l (absent_misses d)
 
 -- what a form leads to that counts as open, where so many may be
-opened_at : List Job → Context → ℕ → Form → Bool → Option State
+abbrev opened_at : List Job → Context → ℕ → Form → Bool → Option State
 opened_at jobs c at a b = Some (if b then state jobs c at over else state (goes_back c ∷ jobs) (deeper c) at (reads a))
 
 module _ {tokens : List Sight} where

@@ -18,7 +18,7 @@ abbrev square : ℕ → Bool → ℕ → ℕ → Sight
 square from line depth behind =
     record { kind = kind.Punctuator; text = codes "]"; from = from; line = line; depth = depth; behind = behind }
 
-module _ {tokens : List Sight} {at from : ℕ} {line : Bool} {depth behind : ℕ} (e : slice_get tokens at ≡ Some (square from line depth behind)) where
+module _ (tokens : List Sight) (at from : ℕ) (line : Bool) (depth behind : ℕ) (e : slice_get tokens at ≡ Some (square from line depth behind)) where
   isnt : (is : Sight → Bool) → is (square from line depth behind) ≡ false → at_place is tokens at ≡ false
   isnt is f = ap (there is) e ∙ f
 
@@ -142,13 +142,14 @@ square_is t k w =
     ap (with_kind t) (punctuator t.kind k)
     ∙ ap (with_text t) ((bytes_eq-Decides t.text (codes "]")).0 (is_right _ (bytes_eq t.text (codes "]")) w))
 
-square_found : (o : Option Sight) → there (is_kind kind.Punctuator) o ≡ true → there (is_word (codes "]")) o ≡ true
-    → {tokens : List Sight} {c : Context} {at : ℕ} → slice_get tokens at ≡ o → suc c.opened < most_open
+square_found : (tokens : List Sight) (at : ℕ) (o : Option Sight) {c : Context} → slice_get tokens at ≡ o
+    → there (is_kind kind.Punctuator) o ≡ true → there (is_word (codes "]")) o ≡ true → suc c.opened < most_open
     → Absent tokens c at (rule Assign)
-square_found None k w e l = absurd (cc)
-square_found (Some t) k w e l = no_rule (no_assign (e ∙ ap Some (square_is t k w)) l)
+square_found tokens at None e k w l = absurd (cc)
+square_found tokens at (Some t) e k w l =
+    no_rule (no_assign tokens at t.from t.line t.depth t.behind (e ∙ ap Some (square_is t k w)) l)
 
 pub square_at : {tokens : List Sight} {c : Context} {at : ℕ} → suc c.opened < most_open
     → at_place (is_kind kind.Punctuator) tokens at ≡ true → is_quoted (codes "]") tokens at ≡ true
     → Absent tokens c at (rule Assign)
-square_at {tokens} {at} l k w = square_found (slice_get tokens at) k w refl l
+square_at {tokens} {at} l k w = square_found tokens at (slice_get tokens at) refl k w l
