@@ -1,5 +1,5 @@
 -- A form that misses by the token at a place alone is passed over there.
-use Rattle.std.proofs.Common.{◌≡◌, ◌<◌, nat_le, if◌then◌else◌, ℕ, Bool, true, false, List, [], ◌∷◌, not, map, Option, Some, Result, Ok, Err, IfOk, refl, sym, ◌∙◌, ap, subst}
+use Rattle.std.proofs.Common.{◌≡◌, if◌then◌else◌, ℕ, Bool, true, false, List, ◌∷◌, not, map, Option, Some, Result, Ok, Err, IfOk, refl, sym, ◌∙◌, ap, subst}
 use Rattle.std.specs.Bool.{OnTrue}
 use Rattle.std.proofs.lemmas.Bool.{lt-leb}
 use denote.Bor.{Bor}
@@ -8,7 +8,7 @@ use Rattle.grammar_spec.specs.declared.names.Rule.{Rule}
 use Rattle.grammar_spec.specs.declared.names.Test.{Test}
 use Rattle.grammar_spec.specs.declared.names.Guard.{Guard}
 use Rattle.grammar_spec.specs.Sights.{Sight, is_quoted, passes, holds}
-use Rattle.grammar_spec.specs.Forms.{Form, ◌▸◌, ◌∣◌, maybe, many, nested, rule}
+use Rattle.grammar_spec.specs.Forms.{Form, rule}
 use Rattle.grammar_spec.specs.Statements.{body}
 use Rattle.grammar_spec.specs.Readings.{Place, misses, stays, taken, looked, most_open, deeper, Reads}
 use Rattle.grammar_spec.specs.Readings.{Reads as reads_as}
@@ -17,7 +17,7 @@ use Rattle.grammar_table.specs.declared.node.Node.{Node}
 use Rattle.grammar_table.specs.NodeForms.{form_of}
 use Rattle.grammar_table.proofs.NodeForms.{form_quoted, form_one, form_ahead, form_then, form_or, form_maybe, form_many, form_call}
 use Rattle.es_grammar.specs.declared.stack.Frame.{Frame}
-use Rattle.es_grammar.specs.Turning.{Job, read_or, read_then, may_come, may_come_again, goes_back, Doing, reads, stayed, missed, over, State, state, tested, Leads, Absent}
+use Rattle.es_grammar.specs.Turning.{Job, read_or, read_then, may_come, may_come_again, goes_back, reads, stayed, missed, over, State, state, tested, Leads, Absent}
 use Rattle.es_grammar.specs.Turning.Leads.{once, further}
 use Rattle.es_grammar.specs.Turning.Absent.{no_word, no_one, no_guard, no_first, no_maybe, no_many, no_choice, no_rule, no_nested}
 use Rattle.es_grammar.specs.Turning.{looked as looked_at, entered, behind_stay, behind_take, behind_miss, job_of, doing_of}
