@@ -1,6 +1,6 @@
 ghost use Rattle.std.specs.Prelude.{◌≡◌, ◌==◌, List, [], ◌∷◌, ◌++◌, ℕ, length, slice_get, option_map, if◌then◌else◌};
 ghost use Rattle.std.specs.Prelude.{is_ok, IfOk};
-ghost use Rattle.scope_builder.specs.Keys.{InKeyOrder};
+ghost use Rattle.scope_builder.specs.Keys.{InKeyOrder, IsPlace, with_value};
 
 use shared_types::{Memory, Text};
 use std::alloc::Global;
@@ -90,6 +90,14 @@ impl<V: Drop> Keyed<V> {
         Ok(())
     }
 
+    /// Puts a value in the place of the one that a key has. Where the key isn't there, the list stays as it was.
+    pub fn set(&mut self, key: &Text, value: V)
+        ensures { self.new ≡ with_value self.old key.now value }
+    {
+        let place = place_of(self.items.as_slice(), key);
+        put_at(&mut self.items, place, key, value);
+    }
+
     /// The entries of an ordered map, which are moved.
     pub fn from_map(alloc: Global, map: BTreeMap<Text, V>) -> Result<Keyed<V>, Memory>
         ensures entries { IfOk result (λ keyed. keyed ≡ map.entries) }
@@ -99,5 +107,26 @@ impl<V: Drop> Keyed<V> {
         Ok(Keyed {
             items: map.into_iter().collect(alloc)?,
         })
+    }
+}
+
+// The place of the first key that isn't below this one.
+fn place_of<V>(pairs: &[(Text, V)], key: &Text) -> usize
+    requires { InKeyOrder pairs.now }
+    ensures { IsPlace pairs.now key.now result }
+{
+    pairs.partition_point(|pair| pair.0 < *key)
+}
+
+// Puts a value at a key, where that stands at its place.
+fn put_at<V: Drop>(pairs: &mut Vec<(Text, V)>, place: usize, key: &Text, value: V)
+    requires order { InKeyOrder pairs.old.items }
+    requires place { IsPlace pairs.old.items key.now place }
+    ensures { pairs.new.items ≡ with_value pairs.old.items key.now value }
+{
+    if let Some(pair) = pairs.get_mut(place) {
+        if pair.0 == *key {
+            pair.1 = value;
+        }
     }
 }
