@@ -167,12 +167,17 @@ class Trial:
         return None if (session.reply(), session.process.wait()) == ('end', 0) else ('the end', '', '')
 
 
-def main():
+def given_words(sessions):
+    """what the words of the call say, where this many sessions are held unless they say another number"""
     words = argparse.ArgumentParser()
     words.add_argument('--program', default=str(ROOT / 'build' / 'salimgub'))
-    words.add_argument('--sessions', type=int, default=2000)
+    words.add_argument('--sessions', type=int, default=sessions)
     words.add_argument('--seed', type=int, default=1)
-    given = words.parse_args()
+    return words.parse_args()
+
+
+def main():
+    given = given_words(2000)
     shared = pathlib.Path('/dev/shm')
     with tempfile.TemporaryDirectory(dir=shared if shared.is_dir() else None) as room:
         trial = Trial(given.program, pathlib.Path(room))

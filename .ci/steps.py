@@ -8,7 +8,6 @@ fresh, which wasn't asked for the map before, or looked where another tree is no
 be those that the trace foresees. Each session is run anew with one edit more, so that the steps of each edit are known. Sessions
 of crates/run_rows/data are held to bounds that stand there (session_rows.py), which are those of the trace where it foresees them.
 """
-import argparse
 import base64
 import hashlib
 import os
@@ -22,7 +21,7 @@ import tempfile
 
 from asked import Trace
 from session_rows import replies, rows
-from sessions import ROOT, TEXTS, Refused, Site, changed, random_change, random_site
+from sessions import TEXTS, Refused, Site, changed, given_words, random_change, random_site
 
 STEPS = re.compile(r'es_module_parser::reading::outline::<|node_resolve::esm_resolve::resolve::<')
 # more that a package.json of a random site may hold
@@ -230,11 +229,7 @@ def tell_rows(counter, room):
 
 
 def main():
-    words = argparse.ArgumentParser()
-    words.add_argument('--program', default=str(ROOT / 'build' / 'salimgub'))
-    words.add_argument('--sessions', type=int, default=200)
-    words.add_argument('--seed', type=int, default=1)
-    given = words.parse_args()
+    given = given_words(200)
     counter, edits = Counter(str(pathlib.Path(given.program).resolve())), []
     shared = pathlib.Path('/dev/shm')
     with tempfile.TemporaryDirectory(dir=shared if shared.is_dir() else None) as room:

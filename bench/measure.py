@@ -84,3 +84,20 @@ def written(folder, name, text):
 def growth(half, whole):
     """How much longer twice the text takes; times below the noise count as the noise."""
     return max(whole, NOISE) / max(half, NOISE)
+
+
+def best(command, shape, size, folder):
+    """The fewest seconds of a few runs of a command over one text, where each is right, and the bytes of the text."""
+    text, wanted = shape(size)
+    path, size = written(folder, "module.mjs", text)
+    return fewest(shape.__name__, [*command, path], wanted), size
+
+
+def hold_growth(command, shapes, folder, most):
+    """Says of each shape of hostile texts how much longer a command takes over the whole of it than over half."""
+    for shape in shapes:
+        half, _ = best(command, shape, SIZE // 2, folder)
+        whole, size = best(command, shape, SIZE, folder)
+        ratio = growth(half, whole)
+        say(ratio <= most, f"{shape.__name__}: {whole:.3f} s for {size} bytes, {size / whole / 1e6:.0f} MB/s, "
+                           f"{ratio:.2f} times as long as for half of it, at most {most}")

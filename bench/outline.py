@@ -123,13 +123,6 @@ HOSTILE = [words, names, long_names, nested, literal, escapes, braced_escapes, p
            many]
 
 
-def best(shape, size, folder):
-    """The fewest seconds of a few runs over one text, where each is right, and the bytes of the text."""
-    text, wanted = shape(size)
-    path, size = measure.written(folder, "module.mjs", text)
-    return measure.fewest(shape.__name__, [*OUTLINE, path], wanted), size
-
-
 def peer(path):
     """The fewest seconds of a few parses by es-module-lexer, each in a process of its own; None without it."""
     if not os.path.isdir(PEER) or not shutil.which("node"):
@@ -223,12 +216,7 @@ def main():
             return
         ordinary(folder)
         packages(folder)
-        for shape in HOSTILE:
-            half, _ = best(shape, SIZE // 2, folder)
-            whole, size = best(shape, SIZE, folder)
-            ratio = measure.growth(half, whole)
-            say(ratio <= GROWTH, f"{shape.__name__}: {whole:.3f} s for {size} bytes, {size / whole / 1e6:.0f} MB/s, "
-                                 f"{ratio:.2f} times as long as for half of it, at most {GROWTH}")
+        measure.hold_growth(OUTLINE, HOSTILE, folder, GROWTH)
     measure.finish()
 
 

@@ -148,31 +148,19 @@ HOSTILE = [opening, brackets, templates, expression, classes, comment, endless_c
            endless_escape, number, string, template, wide_space, marks]
 
 
-def best(shape, size, folder):
-    """The fewest seconds of a few runs over one text, where each is right, and the bytes of the text."""
-    text, wanted = shape(size)
-    path, size = measure.written(folder, "module.mjs", text)
-    return measure.fewest(shape.__name__, [*TOKENS, path], wanted), size
-
-
 def main():
     if sys.argv[1:]:
         sys.exit("usage: python3 -B bench/tokens.py")
     measure.need()
     with tempfile.TemporaryDirectory(prefix="salimgub-tokens-") as folder:
-        floor, size = best(refused, SIZE, folder)
+        floor, size = measure.best(TOKENS, refused, SIZE, folder)
         print(f"      the file alone: {floor:.3f} s for {size} bytes")
-        seconds, size = best(code, SIZE, folder)
+        seconds, size = measure.best(TOKENS, code, SIZE, folder)
         speed = size / seconds
         say(speed >= SPEED, f"ordinary code: {seconds:.3f} s for {size} bytes, {speed / 1e6:.0f} MB/s, "
                             f"without the file {size / max(seconds - floor, 1e-9) / 1e6:.0f}, "
                             f"at least {SPEED / 1e6:.0f}")
-        for shape in HOSTILE:
-            half, _ = best(shape, SIZE // 2, folder)
-            whole, size = best(shape, SIZE, folder)
-            ratio = measure.growth(half, whole)
-            say(ratio <= GROWTH, f"{shape.__name__}: {whole:.3f} s for {size} bytes, {size / whole / 1e6:.0f} MB/s, "
-                                 f"{ratio:.2f} times as long as for half of it, at most {GROWTH}")
+        measure.hold_growth(TOKENS, HOSTILE, folder, GROWTH)
     measure.finish()
 
 

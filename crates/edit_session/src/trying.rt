@@ -44,7 +44,8 @@ pub(crate) fn try_map<F: Folder, L: Ledger>(
     ensures keeps { OnOk result (IfLaid (AreAllRight answers.old.kept) (F.state folder.old) known.old
         over.old (IsKeptFor answers.old.kept (config_with config.old entries.old) answers.new.next)) }
     ensures shown { KeepsShown shown.old.links shown.new.links }
-    ensures plans { OnOk result (PlansFor (IfLaid (AreAllRight answers.old.kept) (F.state folder.old) known.old over.old)
+    ensures plans { OnOk result (PlansFor
+        (IfLaid (AreAllRight answers.old.kept) (F.state folder.old) known.old over.old)
         (config_with config.old entries.old) shown.new) }
 {
     known.lay(over);

@@ -20,4 +20,5 @@ pub record LastsBetween (old new : Links) : Type 0 where
 abbrev pub SlotsLast : Type 0
 SlotsLast =
     (made : ℕ) (old l new : Links) → IsLinked old → IsLinked l → (repairs : Repairs made old l new)
-    → made + missing repairs.keeps < most_made → AreOnce (modules_of old) → AreOnce (modules_of l) → LastsBetween old new
+    → made + missing repairs.keeps < most_made → AreOnce (modules_of old) → AreOnce (modules_of l)
+    → LastsBetween old new

@@ -126,8 +126,8 @@ fn keep(
     view: &View<'_>,
     slot: Slot,
 ) -> Result<Option<Slot>, Memory>
-    ensures { IfOk result (λ kept. Keeps shown.now (map.get is_module table.now) (value_at view.now slot) left.old.items left.new.items
-        kept) }
+    ensures { IfOk result (λ kept. Keeps shown.now (map.get is_module table.now) (value_at view.now slot)
+        left.old.items left.new.items kept) }
 {
     match view.module(slot) {
         Some(module) => keep_module(alloc, shown, table, left, &module),

@@ -65,7 +65,8 @@ pub record IsJudged (asked : List ℕ) (group : List Need) (few : Bool) : Type 0
   pub many_is : few ≡ false → HasManyChoices group asked
 
 -- what the nodes that stand for the places of needs are chosen for
-pub record IsNodesLaid (asked : List ℕ) (targets : List (List ℕ)) (nodes : List Node) (before after : ParsedMap) : Type 0 where
+pub record IsNodesLaid (asked : List ℕ) (targets : List (List ℕ)) (nodes : List Node) (before after : ParsedMap)
+    : Type 0 where
   pub is_laid :
       (wish : Wish) → IsWish wish → wish.asked ≡ asked → wish.targets ≡ targets → AreNodes wish nodes
       → IsLaid before asked (chosen wish (reverse (places_of nodes)) no_weight) after

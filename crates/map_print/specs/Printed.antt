@@ -11,7 +11,8 @@ use Rattle.scope_builder.specs.Lists.{Lists}
 
 -- own: the text is within its limit; read against the map base, where the map's keys and addresses stand as parsing
 -- leaves them, it is that map, and no tag of a page is read in it
-pub record IsPrinted (base : List ℕ) (layout : Layout) (integrity : List (List ℕ × List ℕ)) (bytes : List ℕ) : Type 0 where
+pub record IsPrinted (base : List ℕ) (layout : Layout) (integrity : List (List ℕ × List ℕ)) (bytes : List ℕ)
+    : Type 0 where
   pub text : (m : ParsedMap) → Lists layout integrity m → bytes ≡ map_text base m
   pub within : length bytes ≤ limit_number Map
   pub reads_back : (m : ParsedMap) → Lists layout integrity m → IsKept base m → ParsesMap base bytes (Ok m)

@@ -17,4 +17,5 @@ abbrev pub Connects : List (Place Module) → List (Place Module) → Slot → �
 Connects old new from i to true =
     (m : Module) × (value_at old from ≡ Some m) × (i < length m.requests.value)
     × (new ≡ set_at old from (Some (with_target m i to)))
-Connects old new from i to false = (new ≡ old) × ((m : Module) → value_at old from ≡ Some m → length m.requests.value ≤ i)
+Connects old new from i to false =
+    (new ≡ old) × ((m : Module) → value_at old from ≡ Some m → length m.requests.value ≤ i)

@@ -43,7 +43,8 @@ pub record RemovesAll (old new : List (Place Module)) (gone : List Slot) : Type 
   pub here : All (λ s. value_at new s ≡ None) gone
   pub elsewhere : IsSameElsewhere old new gone
   pub freed : spare old ≤ spare new
-  pub fewer : AreApart gone → All (λ s. (m : Module) × (value_at old s ≡ Some m)) gone → live new + length gone ≡ live old
+  pub fewer :
+      AreApart gone → All (λ s. (m : Module) × (value_at old s ≡ Some m)) gone → live new + length gone ≡ live old
   pub made : length new ≡ length old
 
 abbrev pub slot_in : List Slot → ℕ → Slot

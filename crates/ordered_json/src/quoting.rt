@@ -1,4 +1,4 @@
-ghost use Rattle.std.specs.Prelude.{◌≡◌, ◌<◌, ◌++◌, length, take, OnOk, OnErr};
+ghost use Rattle.std.specs.Prelude.{◌≡◌, ◌<◌, ◌++◌, ◌∷◌, [], length, take, IsTrue, OnOk, OnErr};
 ghost use Rattle.json_spec.specs.PrintedString.{quoted, escaped, escaped_byte, hex_digit};
 
 use shared_types::Memory;
@@ -30,9 +30,37 @@ fn push_quoted(into: &mut Vec<u8>, bytes: &[u8]) -> Result<(), Memory>
     ensures kept { take (length into.old.items) into.new.items ≡ into.old.items }
 {
     into.push(QUOTE)?;
-    push_escaped(into, bytes)?;
+    push_content(into, bytes)?;
     into.push(QUOTE)?;
     Ok(())
+}
+
+fn push_content(into: &mut Vec<u8>, bytes: &[u8]) -> Result<(), Memory>
+    ensures printed { OnOk result (into.new.items ≡ into.old.items ++ escaped bytes.now) }
+    ensures kept { take (length into.old.items) into.new.items ≡ into.old.items }
+{
+    if all_stand(bytes) {
+        into.extend_from_slice(bytes)
+    } else {
+        push_escaped(into, bytes)
+    }
+}
+
+// Whether each byte stands for itself.
+fn all_stand(bytes: &[u8]) -> bool
+    ensures { IsTrue result → escaped bytes.now ≡ bytes.now }
+{
+    let mut all = true;
+    for byte in bytes {
+        all = all & stands_for_itself(*byte);
+    }
+    all
+}
+
+fn stands_for_itself(byte: u8) -> bool
+    ensures { IsTrue result → escaped_byte byte ≡ byte ∷ [] }
+{
+    (byte != QUOTE) & (byte != BACKSLASH) & (byte != LESS_THAN) & (byte >= 32)
 }
 
 fn push_escaped(into: &mut Vec<u8>, bytes: &[u8]) -> Result<(), Memory>

@@ -32,13 +32,15 @@ pub record IsBuilt (done : List Need) (targets : List (List ℕ)) (nodes : List 
   pub all :
       (need : Need) (p : List ℕ) → Contains done need → Contains (places need.referrer) p → Contains (places_of nodes) p
   pub only :
-      (node : Node) → Contains nodes node → (need : Need) × Contains done need × Contains (places need.referrer) node.place
+      (node : Node) → Contains nodes node
+      → (need : Need) × Contains done need × Contains (places need.referrer) node.place
   pub free :
       (node : Node) → Contains nodes node → node.own ≡ None
       → (need : Need) → Contains done need → need.referrer ≡ node.place → ⊥
   pub own :
       (node : Node) (number : ℕ) → Contains nodes node → node.own ≡ Some number
-      → (need : Need) × Contains done need × (need.referrer ≡ node.place) × (slice_get targets number ≡ Some need.target)
+      → (need : Need) × Contains done need × (need.referrer ≡ node.place)
+      × (slice_get targets number ≡ Some need.target)
 
 -- the last referrer, before which all other places stand
 pub record IsLast (done : List Need) (nodes : List Node) (last : Need) : Type 0 where

@@ -16,7 +16,8 @@ pub record IsReady (nodes : List Node) (referrer : List ℕ) (size : ℕ) : Type
   pub free : StandAbove nodes
   pub before :
       (s : ℕ) (p : List ℕ) → size ≤ s → s ≤ length referrer → Contains (places_of nodes) p → Before p (take s referrer)
-  pub there : (s : ℕ) → s < size → Contains (above referrer) (take s referrer) → Contains (places_of nodes) (take s referrer)
+  pub there :
+      (s : ℕ) → s < size → Contains (above referrer) (take s referrer) → Contains (places_of nodes) (take s referrer)
 
 pub record IsAdded (before : List Node) (place : List ℕ) (own : Option ℕ) (after : List Node) : Type 0 where
   pub above : Option ℕ

@@ -222,6 +222,11 @@ DoingsTalk =
     (first : SessionState) (input : List ℕ) (opened : Done) (at : Standing) (text : List ℕ) (done : Done)
     → Does first input opened at text done → Talks (begun first input) text at
 
+-- own: so many edits lie between two graphs at least, since a graph has 2^32 - 64 places, an edit takes 20,063 at most,
+-- and another one is begun where an edit lacks places, of which it needs 20,000 at most
+abbrev pub edits_between : ℕ
+edits_between = 200000
+
 -- own: between two edits at which another graph is begun lie so many others, and so many come before the first
 pub record AreRare (some : ℕ) (anew : List Bool) : Type 0 where
   pub first : (front back : List Bool) → anew ≡ front ++ true ∷ back → some ≤ length front
@@ -233,7 +238,7 @@ abbrev pub RenewalsAreRare : Type 0
 RenewalsAreRare =
     (first : SessionState) (input : List ℕ) (opened : Done) (text : List ℕ) (spent : ℕ) (showings : List (List Shown))
     → IsOpening first opened → (does : EditsDo first input opened text spent showings)
-    → AreRare 200000 (anew_to_end first input opened text spent showings does)
+    → AreRare edits_between (anew_to_end first input opened text spent showings does)
 
 -- own: some text and status
 pub record HasSession (tree : Tree) (input : List ℕ) : Type 0 where
