@@ -1,5 +1,5 @@
 -- The pair at a key takes another value.
-use Rattle.std.specs.Prelude.{◌≡◌, ℕ, zero, suc, ◌<◌, ◌≤◌, Bool, true, false, cond, List, [], ◌∷◌, length, slice_set, slice_index_or, bytes_eq}
+use Rattle.std.specs.Prelude.{◌≡◌, ℕ, zero, suc, ◌<◌, ◌≤◌, Bool, true, false, cond, List, [], ◌∷◌, map, length, slice_set, slice_index_or, bytes_eq}
 use Rattle.std.proofs.Common.{refl, sym, ap, ◌∙◌, subst, arith}
 use Rattle.std.proofs.lemmas.Bool.{cases_Bool, cases_lt, cond-true, cond-false, true≢false}
 use Rattle.std.specs.List.{AllByRecursion}
@@ -9,13 +9,16 @@ use Rattle.std.specs.Cmp.Lexicographic.{slice_cmp, nat_list_cmp_total, texts_tie
 use Rattle.std.specs.declared.cmp.Ordering.TheVariants.{Less, Equal, Greater}
 use Rattle.std.specs.Map.{keys_of}
 use mathlib.Core.Logic.{inl, inr}
-use Rattle.import_map_spec.proofs.Entries.{same_key_is, same_key_itself}
+use Rattle.import_map_spec.proofs.Entries.{same_key, same_key_is, same_key_itself}
 use Rattle.scope_builder.specs.Keys.{InKeyOrder, IsPlace, is_below, with_value}
 
 -- ---- texts
 
 pub same_text : (a b : List ℕ) → bytes_eq a b ≡ true → a ≡ b
 same_text a b e = same_key_is a b (sym (texts_ties a b) ∙ e)
+
+pub text_itself : (a : List ℕ) → bytes_eq a a ≡ true
+text_itself a = texts_ties a a ∙ same_key_itself a
 
 smaller_differs : (a b : List ℕ) → slice_cmp nat_cmp a b ≡ Less → bytes_eq a b ≡ false
 smaller_differs a b e = texts_ties a b ∙ ap is_eq e
