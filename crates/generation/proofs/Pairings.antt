@@ -1,6 +1,6 @@
 -- How the digests that are kept follow a trace.
-use Rattle.std.proofs.Common.{◌≡◌, ◌+◌, ◌<◌, ◌≤◌, ℕ, zero, suc, Bool, true, false, cond, List, [], ◌∷◌, length, take, Option, Some, None, refl, sym, ap, ◌∙◌, subst, arith}
-use Rattle.std.specs.Prelude.{T, ◌&&◌, slice_get, slice_set, get_or, is_some, option_map, option_and_then, bytes_eq}
+use Rattle.std.proofs.Common.{◌≡◌, ◌+◌, ◌<◌, ◌≤◌, ℕ, zero, suc, Bool, true, false, cond, List, [], ◌∷◌, length, take, Option, Some, None, Result, Ok, Err, refl, sym, ap, ◌∙◌, subst, arith}
+use Rattle.std.specs.Prelude.{T, ◌&&◌, IfOk, IsTrue, slice_get, slice_set, get_or, is_some, option_map, option_and_then, bytes_eq}
 use Rattle.std.specs.Ordering.{nat_cmp, is_lt}
 use Rattle.std.specs.Cmp.Lexicographic.{slice_cmp, nat_list_cmp_total, texts_ties}
 use Rattle.std.specs.FinMap.{entries, find, get, insert, len, same_map, entries_sorted, get-entries, len-entries, len-empty, len-insert, slice_cmp-IsAntisymmetric, nat_cmp-IsAntisymmetric}
@@ -171,7 +171,7 @@ stayed ms place e own bytes b within is are test same =
 
 -- ---- all places
 
-whole : (ms : List UrlBytes) → turned ms [] ≡ ms
+pub whole : (ms : List UrlBytes) → turned ms [] ≡ ms
 whole [] = refl
 whole (m ∷ ms) = refl
 
@@ -279,5 +279,20 @@ of_named config modules sources kept pairs are all = are ∙ ap entries (sym (ap
 pub all_digested : (config : Config) (modules : List Module) (sources : List Source) (kept : List UrlBytes) → kept ≡ named config modules sources → digests_of kept ≡ digests config modules sources
 all_digested config modules sources kept all = ap digests_of all ∙ named_digests config modules sources
 
-pub follows : (config : Config) (modules : List Module) (sources : List Source) (kept now : List UrlBytes) → length modules ≡ length kept → length sources ≡ length kept → HasUrls config modules kept → now ≡ turned kept sources → digests_of now ≡ digests config modules sources
+follows : (config : Config) (modules : List Module) (sources : List Source) (kept now : List UrlBytes) → length modules ≡ length kept → length sources ≡ length kept → HasUrls config modules kept → now ≡ turned kept sources → digests_of now ≡ digests config modules sources
 follows config modules sources kept now lengths also urls is = ap digests_of is ∙ turned_digests config modules sources kept lengths also urls
+
+turned_length : (ms : List UrlBytes) (sources : List Source) → length (turned ms sources) ≡ length ms
+turned_length [] sources = refl
+turned_length (m ∷ ms) [] = refl
+turned_length (m ∷ ms) (source ∷ sources) = ap suc (turned_length ms sources)
+
+pub still_within : (ms now : List UrlBytes) (sources : List Source) (place count : ℕ) → place < count → count ≡ length ms → now ≡ turned ms (take place sources) → place < length now
+still_within ms now sources place count within all is =
+    let long : length now ≡ length ms = ap length is ∙ turned_length ms (take place sources) in
+    omega (arith, within, all, long)
+
+pub followed : {E : Type 0} (config : Config) (modules : List Module) (sources : List Source) (kept now : List UrlBytes) (result : Result Bool E) → length modules ≡ length kept → length sources ≡ length kept → HasUrls config modules kept
+    → IfOk result (λ done. IsTrue done → now ≡ turned kept sources) → IfOk result (λ done. IsTrue done → digests_of now ≡ digests config modules sources)
+followed config modules sources kept now (Err fault) lengths also urls is = tt
+followed config modules sources kept now (Ok done) lengths also urls is = λ t. follows config modules sources kept now lengths also urls (is t)
