@@ -16,6 +16,7 @@ use crate::digester::ComputedDigests;
 use crate::digests::digests;
 use crate::kept_layout::KeptLayout;
 use crate::kept_map::KeptMap;
+use crate::kept_page::KeptPage;
 use crate::kept_pairs::KeptPairs;
 use crate::page::page_url;
 use crate::stop::{Stop, too_large, too_many_choices};
@@ -161,7 +162,7 @@ fn map_anew(
     }
 }
 
-// The same, where digests are kept.
+// The same, where the page's URL and digests are kept.
 fn map_again(
     alloc: Global,
     config: &Config,
@@ -174,22 +175,45 @@ fn map_again(
     ensures maps { MapsTrace config.now trace.now.gathered result }
     ensures page { IfOk result (λ found. PageIsFile config.now) }
 {
-    match page_url(alloc, config) {
+    match KeptPage::again(alloc, kept.page.take(), config) {
         Err(stop) => Err(stop),
-        Ok(page) => match KeptPairs::again(
-            alloc,
-            kept.pairs.take(),
-            config,
-            trace,
-            &mut kept.digests,
-        ) {
-            Err(_) => Err(Stop::Memory),
-            Ok(pairs) => {
-                let found = map_laid(alloc, config, &page, trace, layout, pairs.pairs());
-                kept.pairs = Some(pairs);
-                found
-            }
-        },
+        Ok(page) => {
+            let found = map_at(alloc, config, page.url(), trace, layout, kept);
+            kept.page = Some(page);
+            found
+        }
+    }
+}
+
+// The same, where the page is served at this URL.
+fn map_at(
+    alloc: Global,
+    config: &Config,
+    page: &WebUrl,
+    trace: &Trace,
+    layout: &Layout,
+    kept: &mut KeptMap,
+) -> Result<Generated, Stop>
+    requires page { web_name config.now the_page ≡ Some page.now }
+    requires file { PageIsFile config.now }
+    requires fewest { FewestLists trace.now.gathered.needs layout.now }
+    requires few { HasTooManyChoices trace.now.gathered.needs → ⊥ }
+    ensures maps { MapsTrace config.now trace.now.gathered result }
+    ensures page { IfOk result (λ found. PageIsFile config.now) }
+{
+    match KeptPairs::again(
+        alloc,
+        kept.pairs.take(),
+        config,
+        trace,
+        &mut kept.digests,
+    ) {
+        Err(_) => Err(Stop::Memory),
+        Ok(pairs) => {
+            let found = map_laid(alloc, config, page, trace, layout, pairs.pairs());
+            kept.pairs = Some(pairs);
+            found
+        }
     }
 }
 
