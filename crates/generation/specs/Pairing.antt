@@ -10,7 +10,8 @@
 --     with_bytes modules place bytes      the module at the place has these bytes
 --     turned modules sources      each module has the bytes of its source, where it has one
 use Rattle.std.specs.FinMap.{empty, insert}
-use Rattle.std.specs.Prelude.{◌≡◌, ◌<◌, ℕ, zero, suc, List, [], ◌∷◌, ◌++◌, length, Option, Some, None, option_map, slice_get}
+use Rattle.std.specs.Prelude.{◌≡◌, ◌<◌, ℕ, zero, suc, List, [], ◌∷◌, ◌++◌, length, slice_get}
+use Rattle.std.specs.Prelude.{Option, Some, None, option_map}
 use Rattle.import_map_spec.specs.ParsedMap.{Texts}
 use Rattle.integrity_spec.specs.DigestTexts.{digest_text}
 use Rattle.trace_spec.specs.Checks.{Gathered}
