@@ -201,13 +201,7 @@ fn map_at(
     ensures maps { MapsTrace config.now trace.now.gathered result }
     ensures page { IfOk result (λ found. PageIsFile config.now) }
 {
-    match KeptPairs::again(
-        alloc,
-        kept.pairs.take(),
-        config,
-        trace,
-        &mut kept.digests,
-    ) {
+    match KeptPairs::again(alloc, kept.pairs.take(), config, trace, &mut kept.digests) {
         Err(_) => Err(Stop::Memory),
         Ok(pairs) => {
             let found = map_laid(alloc, config, page, trace, layout, pairs.pairs());
