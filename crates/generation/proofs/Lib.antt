@@ -1,3 +1,4 @@
 pub mod Generatings
 pub mod Digestings
 pub mod KeptNeeds
+pub mod Pairings

@@ -3,3 +3,4 @@ pub mod Mapping
 pub mod Paging
 pub mod Digesting
 pub mod Keeping
+pub mod Pairing

@@ -52,7 +52,7 @@ fn put<D: Digester>(
 }
 
 // The module at a place.
-fn module_at(trace: &Trace, place: usize) -> Option<ModuleView<'_>>
+pub(crate) fn module_at(trace: &Trace, place: usize) -> Option<ModuleView<'_>>
     ensures { option_map source_of result ≡ slice_get trace.now.gathered.sources place }
 {
     let _shown = trace.view();

@@ -3,6 +3,8 @@ ghost use Rattle.fewest_spec.specs.Wishes.{HasTooManyChoices};
 ghost use Rattle.layout.specs.Layouts.{FewestLists};
 ghost use Rattle.request_trace.specs.Footprints.{IsFootprint};
 ghost use Rattle.request_trace.specs.Tracing.{TakesSteps, TakesStepsToEnd};
+ghost use Rattle.std.specs.FinMap.{entries};
+ghost use Rattle.generator_spec.specs.Digests as definition;
 ghost use Rattle.generator_spec.specs.Generation.{PageIsFile};
 ghost use Rattle.trace_spec.specs.Modules.{web_name};
 ghost use Rattle.trace_spec.specs.Walking.{the_page};
@@ -10,10 +12,12 @@ ghost use Rattle.generation.specs.Generating.{Generating, GeneratingOver, IsMapO
 ghost use Rattle.generation.specs.Generating.{StepsToEnd, generated_of};
 ghost use Rattle.generation.specs.Mapping.{MapsTrace};
 
-use crate::digester::{ComputedDigests, Digester};
+use crate::digester::ComputedDigests;
 use crate::digests::digests;
 use crate::kept_layout::KeptLayout;
 use crate::kept_map::KeptMap;
+use crate::kept_page::KeptPage;
+use crate::kept_pairs::KeptPairs;
 use crate::page::page_url;
 use crate::stop::{Stop, too_large, too_many_choices};
 use crate::tracing::traced_over;
@@ -21,7 +25,7 @@ use layout::{LayoutFault, layout, mappings};
 use map_print::{PrintFault, print_map};
 use package_lookup::Known;
 use request_trace::{Config, Trace};
-use scope_builder::Layout;
+use scope_builder::{Layout, Mappings};
 use shared_types::Steps;
 use std::alloc::Global;
 use std::sync::ledger::Ledger;
@@ -108,7 +112,7 @@ pub fn map_of(alloc: Global, config: &Config, trace: &Trace) -> Result<Generated
     ensures page { IfOk result (λ found. PageIsFile config.now) }
 {
     match layout(alloc, trace.needs()) {
-        Ok(layout) => map_laid(alloc, config, trace, &layout, &mut ComputedDigests {}),
+        Ok(layout) => map_anew(alloc, config, trace, &layout),
         Err(LayoutFault::TooManyChoices) => Err(too_many_choices()),
         Err(LayoutFault::Memory) => Err(Stop::Memory),
     }
@@ -128,7 +132,7 @@ pub fn map_by(
     kept.digests.make_room(trace.len());
     match KeptLayout::again(alloc, kept.layout.take(), trace.needs()) {
         Ok(laid) => {
-            let found = map_laid(alloc, config, trace, laid.layout(), &mut kept.digests);
+            let found = map_again(alloc, config, trace, laid.layout(), kept);
             kept.layout = Some(laid);
             found
         }
@@ -138,12 +142,11 @@ pub fn map_by(
 }
 
 // The map of a trace, where this is the layout of its needs.
-fn map_laid<D: Digester>(
+fn map_anew(
     alloc: Global,
     config: &Config,
     trace: &Trace,
     layout: &Layout,
-    digester: &mut D,
 ) -> Result<Generated, Stop>
     requires fewest { FewestLists trace.now.gathered.needs layout.now }
     requires few { HasTooManyChoices trace.now.gathered.needs → ⊥ }
@@ -152,31 +155,106 @@ fn map_laid<D: Digester>(
 {
     match page_url(alloc, config) {
         Err(stop) => Err(stop),
-        Ok(page) => match printed(alloc, config, &page, trace, layout, digester) {
-            Ok(generated) => Ok(generated),
-            Err(PrintFault::MapTooLarge) => Err(too_large()),
-            Err(PrintFault::Memory) => Err(Stop::Memory),
+        Ok(page) => match digests(alloc, config, trace, &mut ComputedDigests {}) {
+            Err(_) => Err(Stop::Memory),
+            Ok(digests) => map_laid(alloc, config, &page, trace, layout, &digests),
         },
     }
 }
 
+// The same, where the page's URL and digests are kept.
+fn map_again(
+    alloc: Global,
+    config: &Config,
+    trace: &Trace,
+    layout: &Layout,
+    kept: &mut KeptMap,
+) -> Result<Generated, Stop>
+    requires fewest { FewestLists trace.now.gathered.needs layout.now }
+    requires few { HasTooManyChoices trace.now.gathered.needs → ⊥ }
+    ensures maps { MapsTrace config.now trace.now.gathered result }
+    ensures page { IfOk result (λ found. PageIsFile config.now) }
+{
+    match KeptPage::again(alloc, kept.page.take(), config) {
+        Err(stop) => Err(stop),
+        Ok(page) => {
+            let found = map_at(alloc, config, page.url(), trace, layout, kept);
+            kept.page = Some(page);
+            found
+        }
+    }
+}
+
 // The same, where the page is served at this URL.
-fn printed<D: Digester>(
+fn map_at(
     alloc: Global,
     config: &Config,
     page: &WebUrl,
     trace: &Trace,
     layout: &Layout,
-    digester: &mut D,
+    kept: &mut KeptMap,
+) -> Result<Generated, Stop>
+    requires page { web_name config.now the_page ≡ Some page.now }
+    requires file { PageIsFile config.now }
+    requires fewest { FewestLists trace.now.gathered.needs layout.now }
+    requires few { HasTooManyChoices trace.now.gathered.needs → ⊥ }
+    ensures maps { MapsTrace config.now trace.now.gathered result }
+    ensures page { IfOk result (λ found. PageIsFile config.now) }
+{
+    match KeptPairs::again(alloc, kept.pairs.take(), config, trace, &mut kept.digests) {
+        Err(_) => Err(Stop::Memory),
+        Ok(pairs) => {
+            let found = map_laid(alloc, config, page, trace, layout, pairs.pairs());
+            kept.pairs = Some(pairs);
+            found
+        }
+    }
+}
+
+// The map of a trace, where these are the layout of its needs and the digests of its modules, and the page is served at
+// this URL.
+fn map_laid(
+    alloc: Global,
+    config: &Config,
+    page: &WebUrl,
+    trace: &Trace,
+    layout: &Layout,
+    digests: &Mappings,
+) -> Result<Generated, Stop>
+    requires page { web_name config.now the_page ≡ Some page.now }
+    requires file { PageIsFile config.now }
+    requires fewest { FewestLists trace.now.gathered.needs layout.now }
+    requires few { HasTooManyChoices trace.now.gathered.needs → ⊥ }
+    requires digests { digests.now
+        ≡ entries (definition.digests config.now trace.now.gathered.modules trace.now.gathered.sources) }
+    ensures maps { MapsTrace config.now trace.now.gathered result }
+    ensures page { IfOk result (λ found. PageIsFile config.now) }
+{
+    match printed(alloc, config, page, trace, layout, digests) {
+        Ok(generated) => Ok(generated),
+        Err(PrintFault::MapTooLarge) => Err(too_large()),
+        Err(PrintFault::Memory) => Err(Stop::Memory),
+    }
+}
+
+// The map, printed.
+fn printed(
+    alloc: Global,
+    config: &Config,
+    page: &WebUrl,
+    trace: &Trace,
+    layout: &Layout,
+    digests: &Mappings,
 ) -> Result<Generated, PrintFault>
     requires page { web_name config.now the_page ≡ Some page.now }
     requires fewest { FewestLists trace.now.gathered.needs layout.now }
     requires few { HasTooManyChoices trace.now.gathered.needs → ⊥ }
+    requires digests { digests.now
+        ≡ entries (definition.digests config.now trace.now.gathered.modules trace.now.gathered.sources) }
     ensures map { IfOk result (IsMapOf config.now trace.now.gathered) }
     ensures too_large { result ≡ Err PrintFault.MapTooLarge → HasLargeMap config.now trace.now.gathered }
 {
-    let digests = digests(alloc, config, trace, digester)?;
-    let map = print_map(alloc, layout, &digests, page)?;
+    let map = print_map(alloc, layout, digests, page)?;
     let Some(mappings) = mappings(layout) else {
         return Err(PrintFault::Memory);
     };

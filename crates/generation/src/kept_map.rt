@@ -2,13 +2,18 @@ ghost use Rattle.std.specs.Prelude.{◌≡◌, None};
 
 use crate::kept_digests::KeptDigests;
 use crate::kept_layout::KeptLayout;
+use crate::kept_page::KeptPage;
+use crate::kept_pairs::KeptPairs;
 use std::alloc::Global;
 
-/// What is kept of maps for later ones: the digests of modules' bytes, and the last layout. Each is taken only for the
-/// same bytes and the same needs, so it needn't be told what changes.
+/// What is kept of maps for later ones: the page's URL, the digests of modules' bytes, those of the last map under their
+/// URLs, and the last layout. Each is taken only for the same page, bytes, URLs and needs, so it needn't be told what
+/// changes.
 #[derive(Drop)]
 pub struct KeptMap {
+    pub(crate) page: Option<KeptPage>,
     pub(crate) digests: KeptDigests,
+    pub(crate) pairs: Option<KeptPairs>,
     pub(crate) layout: Option<KeptLayout>,
 }
 
@@ -18,7 +23,9 @@ impl KeptMap {
         ensures { result.layout ≡ None }
     {
         KeptMap {
+            page: None,
             digests: KeptDigests::new(alloc),
+            pairs: None,
             layout: None,
         }
     }

@@ -10,6 +10,8 @@ mod generated;
 mod kept_digests;
 mod kept_layout;
 mod kept_map;
+mod kept_page;
+mod kept_pairs;
 mod page;
 mod stop;
 mod tracing;

@@ -1,6 +1,6 @@
 -- What is known to stand there, as looks saw it.
 --     as_seen              a look that was seen sees what stands there
---     all_seen             what is known stands there, whatever looks tell
+--     seen_here, all_seen  what is known stands there, whatever looks tell
 --     within_small, never_large      the limit of a file
 use Rattle.std.proofs.Common.{◌≡◌, ℕ, nat_lt, List, length, Option, Some, None, refl, ap, ◌∙◌}
 use Rattle.std.specs.Prelude.{All}
@@ -57,7 +57,7 @@ stands_by (Some (Stored bytes)) found e =
     (λ look. look ≡ look_for found → Some (Stored bytes) ≡ found) (λ large f. absurd (never_large found f))
     (λ small f. file_by bytes found f) e
 
-seen_here : (tree : Tree) (known : Known) (sights : Sights) (look : LookSeen) → Sees tree known sights
+pub seen_here : (tree : Tree) (known : Known) (sights : Sights) (look : LookSeen) → Sees tree known sights
     → IsAsKnown known look → sights look.path ≡ look.found
 seen_here tree known sights look sees is =
     stands_by (sights look.path) look.found

@@ -3,6 +3,7 @@ mod ReachedAgain
 pub mod Certifying
 pub mod RightAnswers
 pub mod LookingAgain
+pub mod CountingAll
 pub mod FreshSteps
 pub mod SharedFootprints
 pub mod SeenNow

@@ -1,4 +1,5 @@
 pub mod KnownLooks
+pub mod WholeLooks
 pub mod Entries
 pub mod Tables
 pub mod Freshness

@@ -12,7 +12,7 @@ mod resolving;
 mod sources;
 
 pub use key::RequestKey;
-pub use looks::LookedAt;
+pub use looks::{LookedAt, Looks};
 pub use modules::{KeptModule, KeptModules};
 pub use requests::{KeptRequest, KeptRequests};
 pub use resolving::Requested;

@@ -1,6 +1,7 @@
 //! The looks of a question, with what they saw.
-ghost use Rattle.std.specs.Prelude.{◌≡◌, Some, IfOk};
+ghost use Rattle.std.specs.Prelude.{◌≡◌, ◌≢◌, true, [], Some, IfOk, IfSome, OnErr, OnOk};
 ghost use Rattle.std.specs.Bool.{Decides};
+ghost use Rattle.tree_spec.specs.LookLimits.{size_at};
 ghost use Rattle.tree_spec.specs.LookAskings.{look_at, look_at_each};
 ghost use Rattle.package_lookup.specs.Answered.{Answered};
 ghost use Rattle.package_lookup.specs.LaidTrees.{look_for};
@@ -8,13 +9,15 @@ ghost use Rattle.package_lookup.specs.Looked.{known_at};
 ghost use Rattle.package_lookup.specs.Lookups.{state_of, IsSameLookup};
 ghost use Rattle.package_lookup.specs.Responses.{looked};
 ghost use Rattle.package_lookup.specs.SeenLooks.{entry_of, look_seen};
-ghost use Rattle.package_lookup.specs.Trails.{IsCounted};
-ghost use Rattle.kept_answers.specs.KnownLooks.{done, IsSmall, AreLooksAt, LooksAgain};
+ghost use Rattle.package_lookup.specs.Trails.{IsCounted, Lengthens};
+ghost use Rattle.kept_answers.specs.KnownLooks.{done, IsSmall, IsAsKnown, AreLooksAt, LooksAgain};
+ghost use Rattle.kept_answers.specs.WholeLooks.{counted_all, AreLooksOf, AreShown, AreCountable, HasSpaceFor};
 
-use package_lookup::{Lookup, LookupFault, Seen};
+use package_lookup::{Known, Lookup, LookupFault, Seen, Trail};
 use shared_types::{Listed, Memory};
 use std::alloc::Global;
 use std::marker::Model;
+use std::rc::Rc;
 use tree_model::{Folder, Path, Paths};
 
 /// A look and what it saw, which is no file above the limit. Bytes are shared with what is known.
@@ -59,6 +62,23 @@ impl LookedAt {
     {
         same_seen(seen, &self.seen)
     }
+
+    // Whether the same is known to stand there.
+    fn is_shown(&self, known: &Known) -> bool
+        ensures { result ≡ true → IsAsKnown known.now self.now }
+    {
+        match known.shown(&self.path) {
+            None => false,
+            Some(seen) => self.saw(seen),
+        }
+    }
+
+    // How many bytes it saw.
+    fn size(&self) -> u64
+        ensures { result ≡ size_at self.now.found }
+    {
+        self.seen.size()
+    }
 }
 
 fn same_seen(one: &Seen, other: &Seen) -> bool
@@ -83,17 +103,83 @@ fn same_seen(one: &Seen, other: &Seen) -> bool
     }
 }
 
+/// The looks of a question, each at another path, and these paths by themselves, which trails share.
+#[derive(Drop)]
+pub struct Looks {
+    paths: Rc<Paths>,
+    items: Listed<LookedAt>,
+}
+
+impl Model for Looks {
+    ghost use Rattle.std.specs.Prelude.{List};
+    ghost use Rattle.kept_spec.specs.Certificates.{LookSeen};
+    ghost use Rattle.kept_answers.specs.WholeLooks.{AreLooksOf};
+
+    ghost Value = { List LookSeen };
+
+    ghost view = { λ l. l.items };
+
+    ghost invariant = { λ l. AreLooksOf l.paths.value l.items };
+}
+
+impl Looks {
+    /// Looks at these paths.
+    fn of(alloc: Global, paths: Paths, items: Listed<LookedAt>) -> Result<Looks, Memory>
+        requires { AreLooksOf paths items }
+        ensures { IfOk result (λ looks. looks ≡ items) }
+    {
+        Ok(Looks {
+            paths: Rc::new(alloc, paths)?,
+            items,
+        })
+    }
+
+    // The paths, where the same is known to stand at each, and looks at all of them pass no limit however many were
+    // counted; else none.
+    fn countable(&self, known: &Known, trail: &Trail) -> Option<Rc<Paths>>
+        ensures { IfSome result (λ paths. AreCountable known.now trail.now self.now paths.value) }
+    {
+        let most = trail.bytes_left();
+        if !trail.has_space(self.items.len(), most) {
+            return None;
+        }
+        if !are_shown(known, self.items.as_slice(), most) {
+            return None;
+        }
+        match Rc::clone(&self.paths) {
+            Ok(paths) => Some(paths),
+            Err(_) => None,
+        }
+    }
+}
+
+// Whether the same is known to stand at the path of each of these looks, and so many bytes at most at all of them.
+fn are_shown(known: &Known, looks: &[LookedAt], most: u64) -> bool
+    ensures { result ≡ true → AreShown known.now looks.now most }
+{
+    let mut left = most;
+    let mut rest = looks;
+    while let Some((look, others)) = rest.split_first() {
+        let size = look.size();
+        if size > left || !look.is_shown(known) {
+            return false;
+        }
+        left -= size;
+        rest = others;
+    }
+    true
+}
+
 /// Looks again at the paths of the present question, which leaves the trail.
-pub(crate) fn looks_of<F: Folder>(
-    lookup: &mut Lookup<'_, F>,
-) -> Result<Listed<LookedAt>, LookupFault>
+pub(crate) fn looks_of<F: Folder>(lookup: &mut Lookup<'_, F>) -> Result<Looks, LookupFault>
     ensures answered { Answered (state_of F.state lookup.old) (look_at_each lookup.old.trail.now.question)
         (looked done result) (state_of F.state lookup.new) }
     ensures looks { IfOk result (λ looks. AreLooksAt lookup.new.known.now lookup.old.trail.now.question looks) }
     ensures same { IsSameLookup lookup.old lookup.new }
 {
     let paths = copy_of(lookup.alloc, lookup.trail.question())?;
-    looks_at(lookup, paths.as_slice())
+    let items = looks_at(lookup, paths.as_slice())?;
+    Ok(Looks::of(lookup.alloc, paths, items)?)
 }
 
 fn copy_of(alloc: Global, paths: &Paths) -> Result<Paths, Memory>
@@ -141,6 +227,52 @@ fn looks_at<F: Folder>(
 
 /// Looks again at the paths of these looks, in a new question, up to the first that sees otherwise. Whether none does.
 pub(crate) fn look_again<F: Folder>(
+    lookup: &mut Lookup<'_, F>,
+    looks: &Looks,
+) -> Result<bool, LookupFault>
+    ensures again { LooksAgain (state_of F.state lookup.old) looks.now result
+        (state_of F.state lookup.new) }
+    ensures same { IsSameLookup lookup.old lookup.new }
+{
+    match looks.countable(lookup.known, lookup.trail) {
+        None => look_by_look(lookup, looks.items.as_slice()),
+        Some(paths) => look_at_all(lookup, looks.items.as_slice(), paths),
+    }
+}
+
+// Counts all of these looks, at these paths, in a new question.
+fn look_at_all<F: Folder>(
+    lookup: &mut Lookup<'_, F>,
+    looks: &[LookedAt],
+    paths: Rc<Paths>,
+) -> Result<bool, LookupFault>
+    requires { AreCountable lookup.old.known.now lookup.old.trail.now looks.now paths.value }
+    ensures again { LooksAgain (state_of F.state lookup.old) looks.now result
+        (state_of F.state lookup.new) }
+    ensures same { IsSameLookup lookup.old lookup.new }
+{
+    count_all(lookup.alloc, lookup.trail, looks)?;
+    lookup.trail.ask_again(paths);
+    Ok(true)
+}
+
+// Counts these looks, in no question.
+fn count_all(alloc: Global, trail: &mut Trail, looks: &[LookedAt]) -> Result<(), Memory>
+    requires { HasSpaceFor trail.old looks.now }
+    ensures counted { OnOk result (trail.new ≡ counted_all trail.old looks.now) }
+    ensures grows { Lengthens trail.old trail.new }
+    ensures some { OnErr result (looks.now ≢ []) }
+{
+    let mut rest = looks;
+    while let Some((look, others)) = rest.split_first() {
+        trail.pass(alloc, look.path(), look.size())?;
+        rest = others;
+    }
+    Ok(())
+}
+
+// The same, look by look.
+fn look_by_look<F: Folder>(
     lookup: &mut Lookup<'_, F>,
     looks: &[LookedAt],
 ) -> Result<bool, LookupFault>

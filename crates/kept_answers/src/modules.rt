@@ -6,9 +6,9 @@ ghost use Rattle.kept_answers.specs.Entries.{module_seen};
 ghost use Rattle.kept_answers.specs.Freshness.{module_looks, put_looks};
 ghost use Rattle.kept_answers.specs.Tables.{modules_at, IsModuleOf, AreModules};
 
-use crate::looks::LookedAt;
+use crate::looks::Looks;
 use module_sources::Source;
-use shared_types::{Listed, Memory};
+use shared_types::Memory;
 use std::alloc::Global;
 use std::collections::HashMap;
 use std::marker::Model;
@@ -19,7 +19,7 @@ use tree_model::Path;
 #[derive(Drop)]
 pub struct KeptModule {
     source: Source,
-    looks: Rc<Listed<LookedAt>>,
+    looks: Rc<Looks>,
 }
 
 impl Model for KeptModule {
@@ -36,7 +36,7 @@ impl Model for KeptModule {
 
 impl KeptModule {
     /// A source, with the looks that decided it.
-    pub fn of(source: Source, looks: Rc<Listed<LookedAt>>) -> KeptModule
+    pub fn of(source: Source, looks: Rc<Looks>) -> KeptModule
         requires { IsSource (Ok source) }
         ensures { result ≡ module_seen source looks.value }
     {
@@ -53,10 +53,10 @@ impl KeptModule {
     }
 
     /// The looks.
-    pub fn looks(&self) -> &[LookedAt]
+    pub fn looks(&self) -> &Looks
         ensures { result.now ≡ self.now.looks }
     {
-        self.looks.as_slice()
+        &self.looks
     }
 
     /// An equal one, with all of it shared.

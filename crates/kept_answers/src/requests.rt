@@ -8,7 +8,7 @@ ghost use Rattle.kept_answers.specs.Freshness.{put_looks, request_looks};
 ghost use Rattle.kept_answers.specs.Tables.{requests_at, IsRequestOf, AreRequests};
 
 use crate::key::RequestKey;
-use crate::looks::LookedAt;
+use crate::looks::Looks;
 use condition_match::Conditions;
 use node_resolve::Found;
 use shared_types::{Listed, Memory, Text};
@@ -20,7 +20,7 @@ use std::rc::Rc;
 #[derive(Drop)]
 pub struct KeptRequest {
     pub(crate) found: Rc<Found>,
-    pub(crate) looks: Rc<Listed<LookedAt>>,
+    pub(crate) looks: Rc<Looks>,
 }
 
 impl KeptRequest {

@@ -17,12 +17,12 @@ ghost use Rattle.kept_answers.specs.RightAnswers.{AnsweredIf};
 ghost use Rattle.kept_answers.specs.Tables.{IsRequestOf, AreRequests};
 
 use crate::key::RequestKey;
-use crate::looks::{LookedAt, look_again, looks_of};
+use crate::looks::{Looks, look_again, looks_of};
 use crate::requests::{KeptRequest, KeptRequests};
 use condition_match::Conditions;
 use node_resolve::{Cause, Found, NodeFault, resolve};
 use package_lookup::{Lookup, LookupFault, some_sights};
-use shared_types::{Listed, Memory, Steps, Text};
+use shared_types::{Memory, Steps, Text};
 use std::alloc::Global;
 use std::rc::Rc;
 use std::sync::ledger::Ledger;
@@ -114,7 +114,7 @@ fn request_again<F: Folder, L: Ledger>(
         IsRequestOf request.now.conditions.now key found.now → AreRequests next.old → AreRequests next.new) }
     ensures same { IsSameLookup lookup.old lookup.new }
 {
-    match look_again(lookup, found.looks.as_slice()) {
+    match look_again(lookup, &found.looks) {
         Err(fault) => Err(fault_of(fault)),
         Ok(false) => request_anew(lookup, request, steps, next, key),
         Ok(true) => match keep_again(next, key, found) {
@@ -221,7 +221,7 @@ fn put_request(
     next: &mut KeptRequests,
     request: RequestKey,
     found: Found,
-    looks: Listed<LookedAt>,
+    looks: Looks,
 ) -> Result<Rc<Found>, Memory>
     ensures found { IfOk result (λ own. own.value ≡ found) }
     ensures set { OnOk result ((other : Request) → request_looks next.new other

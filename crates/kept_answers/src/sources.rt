@@ -14,11 +14,11 @@ ghost use Rattle.kept_answers.specs.Puts.{PutsLooks};
 ghost use Rattle.kept_answers.specs.RightAnswers.{AnsweredIf};
 ghost use Rattle.kept_answers.specs.Tables.{IsModuleOf, AreModules};
 
-use crate::looks::{LookedAt, look_again, looks_of};
+use crate::looks::{Looks, look_again, looks_of};
 use crate::modules::{KeptModule, KeptModules, source_copy};
 use module_sources::{NoSource, Source, module_source};
 use package_lookup::{Lookup, LookupFault, some_sights};
-use shared_types::{Listed, Memory, Steps};
+use shared_types::{Memory, Steps};
 use std::alloc::Global;
 use std::rc::Rc;
 use std::sync::ledger::Ledger;
@@ -162,7 +162,7 @@ fn put_module(
     path: &Path,
     next: &mut KeptModules,
     source: &Source,
-    looks: Listed<LookedAt>,
+    looks: Looks,
 ) -> Result<(), Memory>
     requires { IsSource (Ok source.now) }
     ensures set { OnOk result ((other : List ℕ) → module_looks next.new other

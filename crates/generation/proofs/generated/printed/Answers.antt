@@ -37,17 +37,17 @@ number_there P None number h e = absurd (cc)
 number_there P (Some other) number h e = let same : other ≡ number = cc in subst P same h
 
 pub returns-in_err-map-clause-too_large : goal.returns-in_err-map-clause-too_large
-returns-in_err-map-clause-too_large g c = λ same.
+returns-in_err-map-clause-too_large c = λ same.
     let needs : List Need = c.args.trace.now.gathered.needs in
     let laid : FewestLists needs c.args.layout.now = c.requires.fewest in
-    let printed = digested c.args.config.now c.args.trace.now.gathered c.args.layout.now laid.m c.in_ok-digests.digests c.in_ok-digests.ensures laid.lists in
+    let printed = digested c.args.config.now c.args.trace.now.gathered c.args.layout.now laid.m c.args.digests.now c.requires.digests laid.lists in
     record { few = c.requires.few; layout = laid.m; is_fewest = laid.is_fewest; large = beside_large c.args.config.now c.args.page.now (with_digests c.args.config.now c.args.trace.now.gathered laid.m) c.requires.page (c.print_map.ensures.too_large (search (rules, same)) (with_digests c.args.config.now c.args.trace.now.gathered laid.m) printed) }
 
 pub returns-clause-map : goal.returns-clause-map
-returns-clause-map g c =
+returns-clause-map c =
     let needs : List Need = c.args.trace.now.gathered.needs in
     let laid : FewestLists needs c.args.layout.now = c.requires.fewest in
-    let printed = digested c.args.config.now c.args.trace.now.gathered c.args.layout.now laid.m c.in_ok-digests.digests c.in_ok-digests.ensures laid.lists in
+    let printed = digested c.args.config.now c.args.trace.now.gathered c.args.layout.now laid.m c.args.digests.now c.requires.digests laid.lists in
     record {
       few = c.requires.few;
       layout = laid.m;

@@ -3,7 +3,7 @@ use Rattle.package_lookup.specs.Lookups.{state_of}
 use Rattle.package_lookup.specs.SeenLooks.{entry_of}
 use Rattle.package_lookup.proofs.SameLookups.{same_twice}
 use Rattle.kept_answers.proofs.LookingAgain.{is_known, again_err, again_fails, again_differs, again_goes, again_ends}
-use Rattle.kept_answers.proofs.looks.look_again.Goals as goal
+use Rattle.kept_answers.proofs.looks.look_by_look.Goals as goal
 
 pub returns-in_err-seen-clause-again : goal.returns-in_err-seen-clause-again
 returns-in_err-seen-clause-again g c =

@@ -1,7 +1,7 @@
 use Rattle.std.proofs.Common.{length}
 use Rattle.package_lookup.specs.Lookups.{state_of, IsSameLookup}
 use Rattle.kept_answers.proofs.LookingAgain.{Again}
-use Rattle.kept_answers.proofs.looks.look_again.Given as goal
+use Rattle.kept_answers.proofs.looks.look_by_look.Given as goal
 
 abbrev pub invariant-loop-look : goal.invariant-loop-look
 invariant-loop-look g l = record {
