@@ -3,7 +3,7 @@
 
 `docs/minutes.py run FILE [WORDS..]` runs `rt ci WORDS..` at the top of the repository in the current folder, looks twice a second at
 what processes it has and how much processor time each took, and writes what it saw to FILE. `docs/minutes.py table FILE [BEFORE]`
-prints the table of architecture.md: of FILE, and beside it the sums of an earlier run.
+prints a table of FILE, with what an earlier run took beside it.
 
 Proofs: the building of libraries and programs. Tests: the building of `#[test]` functions. Edits: what must-fail edits took, with
 the checks that they begin with. Runs: programs and tests that were run. What a process took after the last look at it is missing;
@@ -105,26 +105,31 @@ def run(file, words):
     return runner.returncode
 
 
-def sums(told):
-    """the minutes of each kind, over all crates"""
-    return {kind: sum(row[kind] for row in told['rows'].values()) / 60 for kind in KINDS}
-
-
-def minutes(seconds):
+def minutes(row, kind):
     """as the table shows it; nothing for what took nothing"""
+    seconds = row[kind] if row else 0
     return f'{seconds / 60:.1f}' if seconds >= 3 else ''
 
 
+def sums(told):
+    """the seconds of each kind, over all crates"""
+    return {kind: sum(row[kind] for row in told['rows'].values()) for kind in KINDS}
+
+
 def table(file, before):
-    """prints the table, and the sums of an earlier run beside its own"""
-    told = [json.load(open(it, encoding='utf8')) for it in (file, before) if it]
-    print('Crate|Proofs|Tests|Edits|Runs\n---|---|---|---|---')
-    for crate, row in sorted(told[0]['rows'].items(), key=lambda it: -sum(it[1].values())):
-        print(f'`{crate}`|' + '|'.join(minutes(row[kind]) for kind in KINDS))
-    for name, it in zip(('together', 'before'), told):
-        print(f'{name}|' + '|'.join(f'{sums(it)[kind]:.0f}' for kind in KINDS))
-    for name, it in zip(('This run', 'The one before'), told):
+    """prints a crate a line, those that took most first, and beside each what it took in an earlier run"""
+    told = [json.load(open(it, encoding='utf8')) for it in (before, file) if it]
+    heads = [f'{kind.capitalize()}{of}' for kind in KINDS for of in ((', before', ', after') if before else ('',))]
+    print('|'.join(['Crate', *heads]) + '\n' + '|'.join(['---'] * (1 + len(heads))))
+    taken = [it['rows'] for it in told]
+    took = {name: sum(sum(rows[name].values()) for rows in taken if name in rows) for rows in taken for name in rows}
+    lines = [(f'`{name}`', [rows.get(name) for rows in taken]) for name in sorted(took, key=took.get, reverse=True)]
+    for name, rows in [*lines, ('together', [sums(it) for it in told])]:
+        print('|'.join([name, *(minutes(row, kind) for kind in KINDS for row in rows)]))
+    for name, it in zip(('Before', 'After') if before else ('Here',), told):
         print(f'\n{name}: {it["whole"] / 60:.0f} processor minutes as the system counts them, {it["clock"] / 60:.0f} by the clock.')
+    if before:
+        print('\nOf before: ' + ', '.join(f'{told[1][of] / told[0][of]:.2f} {of}' for of in ('whole', 'clock')))
 
 
 def main(words):
