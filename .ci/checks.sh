@@ -163,7 +163,7 @@ rows() {
     # The words hold no spaces.
     (cd "crates/$1/data" && "$program" $words >"$kept/rows" </dev/null) &&
         diff "crates/$1/stdout" "$kept/rows" || return 1
-    counted=$(sed -n 's/^[a-z_]*\.txt: \([0-9]*\) .*/\1/p' "$kept/rows" | awk '{ sum += $1 } END { print sum + 0 }')
+    counted=$(sed -n 's/^[a-z_/]*\.txt: \([0-9]*\) .*/\1/p' "$kept/rows" | awk '{ sum += $1 } END { print sum + 0 }')
     echo "$1: $counted rows"
     passed=$((passed + counted))
 }
@@ -180,9 +180,7 @@ check "the example with a map written by hand" checked
 check "a site from link to unlink" cycle
 check "the sentences that edits break" .ci/edits.sh
 check "rows of runs" rows run_rows
-check "rows of texts" rows text_rows
-check "rows of packages" rows package_rows
-check "rows of commands" rows command_rows
+check "rows of layers" rows layer_rows
 check "rows on disk" .ci/rows.sh
 check "a session through pipes" python3 -B .ci/session.py
 check "a program that must not compile" .ci/must_not_compile.sh

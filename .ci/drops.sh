@@ -1,17 +1,43 @@
 #!/bin/sh
 # Lets each allocation fail in turn while values that count their drops are put into an arena and taken out again: each
-# must be dropped once, also where a growth finds no memory. The program of crates/arena_count first takes and gives
-# back as many pieces of memory as its second word says, so one build serves for all: allocation LAST fails, and a
-# larger number moves the failure to the front of the run. A bad access stops the program. Nothing is proved here.
+# must be dropped once, also where a growth finds no memory. The task `drops` of crates/layer_measure first takes and
+# gives back as many pieces of memory as its second word says, so one build serves for all: allocation LAST fails, and a
+# larger number moves the failure to the front of the run. A bad access stops the program. It is built with the tasks of
+# an arena alone, in a copy, and nothing is proved here.
 LAST=${1:-20}
+cd "$(dirname "$0")/.." || exit 1
 kept=$(mktemp -d) || exit 1
 trap 'rm -rf "$kept"' EXIT
-mkdir "$kept/inputs"
+program=$kept/crates/arena_tasks
+mkdir "$kept/inputs" && tar -cf - --exclude=out crates crates.txt HANDLES | tar -xf - -C "$kept" &&
+    mkdir -p "$program/src" "$program/specs" "$program/proofs" && : >"$program/specs/Lib.antt" &&
+    : >"$program/proofs/Lib.antt" && echo 'arena_tasks: slot_arena' >>"$kept/crates.txt" || exit 1
+for module in arenas counted plain; do
+    cp "crates/layer_measure/src/$module.rt" "$program/src" || exit 1
+done
+cat >"$program/src/main.rt" <<'END'
+#![tactic(auto)]
+
+mod arenas;
+mod counted;
+mod plain;
+
+use std::{env, io};
+
+fn main(rt: HostRuntime) -> io::Result<()> {
+    let mut words = env::args(&rt)?;
+    words.next();
+    let (Some(task), Some(number)) = (words.next(), words.next()) else {
+        return Ok(());
+    };
+    arenas::tell(&rt, task.as_str(), number.as_str())
+}
+END
 for number in $(seq 0 "$LAST"); do
     : >"$kept/inputs/$number"
     echo "$number" >"$kept/inputs/$number.args"
 done
-cd "$(dirname "$0")/../crates/arena_count" || exit 1
+cd "$program" || exit 1
 rt try --cases "$kept/inputs" --fail-alloc "$LAST" -- drops >"$kept/out" 2>"$kept/log" || {
     tail -n 20 "$kept/log" >&2
     exit 1

@@ -1,6 +1,6 @@
 """Measures the arena of values under slots, and says PASS or FAIL to each target.
 
-It runs crates/arena_count/out/arena_count, which `rt ci` or `rt run` in crates/arena_count leaves there. Inserting and
+It runs the tasks of an arena of crates/layer_measure, which `rt ci` or `rt run` in its folder builds. Inserting and
 removing in turn is measured beside the same on a vector of options with a list of free places, in the same program;
 looking at 200,000 values in an order without a pattern against a number of looks in a second; and the memory that
 values of 128 bytes take, which is about a module's, against their own size. Each sum that the program prints is
@@ -11,7 +11,7 @@ import os
 import sys
 
 HERE = os.path.dirname(os.path.abspath(__file__))
-PROGRAM = os.path.join(HERE, "..", "crates", "arena_count", "out", "arena_count")
+PROGRAM = os.path.join(HERE, "..", "crates", "layer_measure", "out", "layer_measure")
 TRIES = 7
 TURNS = 2_000_000
 LIVE = 1_024
@@ -52,7 +52,7 @@ def verdict(name, figure, passed):
 
 def main():
     if not os.path.exists(PROGRAM):
-        sys.exit("crates/arena_count/out/arena_count is missing: `rt run` in crates/arena_count makes it")
+        sys.exit("crates/layer_measure/out/layer_measure is missing: `rt run` in crates/layer_measure makes it")
     removed = sum(range(TURNS - LIVE))
     arena = best("turns", TURNS, removed)
     plain = max(best("plain", TURNS, removed), 0.001)

@@ -1,11 +1,15 @@
 //! Puts one layer to work on a file, and prints what came of it: it shows how long that takes. Its words are the name of
-//! a layer, the name of a file and for `resolve` a number of rounds; or `each` and a file with such words in its lines.
+//! a layer, the name of a file and for `resolve` a number of rounds; or a task of an arena and how often it is done; or
+//! `each` and a file with such words in its lines.
 #![tactic(auto)]
 
+mod arenas;
+mod counted;
 mod grammar;
 mod outlines;
 mod packages;
 mod pages;
+mod plain;
 mod tokens;
 mod values;
 
@@ -13,7 +17,7 @@ use std::alloc::{AllocError, Global};
 use std::rt::Runtime;
 use std::{env, fs, io};
 
-/// What a layer says of a file; nothing where there is no layer of this name.
+/// What a layer says of a file; where there is no layer of this name, what an arena comes to, whose task it names.
 fn measure<R: Runtime + AllocGlobal>(
     rt: &R,
     layer: &str,
@@ -28,7 +32,7 @@ fn measure<R: Runtime + AllocGlobal>(
         "pieces" => pages::tell_pieces(rt, name),
         "inject" => pages::tell_injected(rt, name),
         "resolve" => packages::tell(rt, name, rounds),
-        _ => Ok(()),
+        task => arenas::tell(rt, task, name.as_str()),
     }
 }
 
@@ -38,7 +42,7 @@ fn text_of(alloc: Global, text: &str) -> Result<String, AllocError> {
     Ok(copy)
 }
 
-/// What the layers say of the files, each of both named in a line.
+/// The same of each line, which names both.
 fn measure_each<R: Runtime + AllocGlobal>(rt: &R, name: &str) -> io::Result<()> {
     let lines = fs::read_to_string(rt, name)?;
     for line in lines.as_str().lines() {

@@ -1,23 +1,13 @@
-//! The files of cases that a program's words name.
+//! Files of cases.
 
 use crate::cases::Cases;
 use crate::layers::Layers;
 use std::alloc::Global;
 use std::rt::Runtime;
-use std::{env, fs, io};
+use std::{fs, io};
 
-/// Tries the cases of all files that the words name. For each file it writes the cases that come to something else, and
-/// then how many there are.
-pub fn try_files<R: Runtime + AllocGlobal, A: Layers>(rt: &R, layers: &mut A) -> io::Result<()> {
-    let mut words = env::args(rt)?;
-    words.next();
-    for word in words {
-        try_file(rt, layers, word.as_str())?;
-    }
-    Ok(())
-}
-
-fn try_file<R: Runtime + AllocGlobal, A: Layers>(
+/// Tries the cases of a file. It writes those that come to something else, and then how many there are.
+pub fn try_file<R: Runtime + AllocGlobal, A: Layers>(
     rt: &R,
     layers: &mut A,
     name: &str,

@@ -13,7 +13,7 @@ mod report;
 mod said;
 mod written;
 
-pub use case_files::try_files;
+pub use case_files::try_file;
 pub use escapes::{unescaped, unescaped_text};
 pub use fault::{RowFault, malformed};
 pub use layers::{Layers, Question};

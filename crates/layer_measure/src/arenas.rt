@@ -1,16 +1,13 @@
-//! Puts an arena to work, to show how long its calls take and how much memory it holds. Two words: what to do, and how
-//! often. Each answer is a sum that can be told beforehand.
-#![tactic(auto)]
+//! An arena that is put to work, to show how long its calls take and how much memory it holds. Each answer is a sum that
+//! can be told beforehand.
 
-mod counted;
-mod plain;
-
-use counted::Counted;
-use plain::Plain;
+use crate::counted::Counted;
+use crate::plain::Plain;
 use slot_arena::{Slot, SlotArena};
 use std::alloc::{AllocError, Global};
 use std::cell::Cell;
-use std::{env, io};
+use std::io;
+use std::rt::Runtime;
 
 /// How many values are live while values come and go.
 const LIVE: usize = 1_024;
@@ -141,27 +138,26 @@ fn dropped(alloc: Global, before: u64) -> (u64, u64) {
     (drops.get(), put)
 }
 
-fn main(rt: HostRuntime) -> io::Result<()> {
-    let mut words = env::args(&rt)?;
-    words.next();
-    let (Some(task), Some(number)) = (words.next(), words.next()) else {
+fn tell_sum<R: Runtime>(rt: &R, sum: u64) -> io::Result<()> {
+    println!(rt; "{sum}")
+}
+
+fn tell_dropped<R: Runtime + AllocGlobal>(rt: &R, before: u64) -> io::Result<()> {
+    let (dropped, put) = dropped(rt.alloc(), before);
+    println!(rt; "{dropped} dropped, {put} put in")
+}
+
+/// What a task comes to that is done as often as a number says; nothing where there is no task of this name.
+pub fn tell<R: Runtime + AllocGlobal>(rt: &R, task: &str, number: &str) -> io::Result<()> {
+    let Ok(rounds) = number.parse::<u64>() else {
         return Ok(());
     };
-    let Ok(rounds) = number.as_str().parse::<u64>() else {
-        return Ok(());
-    };
-    let sum = match task.as_str() {
-        "turns" => in_turn(rt.alloc(), rounds)?,
-        "plain" => in_turn_plain(rt.alloc(), rounds)?,
-        "looks" => looks(rt.alloc(), rounds)?,
-        "held" => held(rt.alloc(), rounds)?,
-        "drops" => {
-            let (dropped, put) = dropped(rt.alloc(), rounds);
-            println!(rt; "{dropped} dropped, {put} put in")?;
-            return Ok(());
-        }
-        _ => return Ok(()),
-    };
-    println!(rt; "{sum}")?;
-    Ok(())
+    match task {
+        "turns" => tell_sum(rt, in_turn(rt.alloc(), rounds)?),
+        "plain" => tell_sum(rt, in_turn_plain(rt.alloc(), rounds)?),
+        "looks" => tell_sum(rt, looks(rt.alloc(), rounds)?),
+        "held" => tell_sum(rt, held(rt.alloc(), rounds)?),
+        "drops" => tell_dropped(rt, rounds),
+        _ => Ok(()),
+    }
 }
