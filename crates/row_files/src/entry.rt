@@ -22,26 +22,41 @@ pub(crate) fn entry_of(
     line: &str,
     turn: Option<u64>,
 ) -> Result<Stands, RowFault> {
-    let (path, bytes) = match written_of(line)? {
-        Written::Text(path, text) => {
-            item.without_block()?;
-            (path, Some(unescaped(alloc, text, turn)?))
-        }
-        Written::Block(path) => (path, Some(block_of(alloc, item)?)),
-        Written::Named(path, name) => {
-            item.without_block()?;
-            (path, Some(Vec::from_slice(alloc, names.text(name)?)?))
-        }
-        Written::Folder(path) => {
-            item.without_block()?;
-            (path, None)
-        }
-        Written::Untold(_) => return Err(malformed("a file of a tree must be told")),
-    };
+    let written = written_of(line)?;
     Ok(Stands {
-        path: unescaped_text(alloc, path, turn)?,
-        bytes,
+        bytes: bytes_of(alloc, names, item, written, turn)?,
+        path: unescaped_text(alloc, path_of(written), turn)?,
     })
+}
+
+fn path_of(written: Written<'_>) -> &str {
+    match written {
+        Written::Text(path, _) => path,
+        Written::Block(path) => path,
+        Written::Named(path, _) => path,
+        Written::Untold(path) => path,
+        Written::Folder(path) => path,
+    }
+}
+
+// The bytes of a file; None for a folder.
+fn bytes_of(
+    alloc: Global,
+    names: &Names,
+    item: &Item,
+    written: Written<'_>,
+    turn: Option<u64>,
+) -> Result<Option<Vec<u8>>, RowFault> {
+    if let Written::Block(_) = written {
+        return Ok(Some(block_of(alloc, item)?));
+    }
+    item.without_block()?;
+    match written {
+        Written::Text(_, text) => Ok(Some(unescaped(alloc, text, turn)?)),
+        Written::Named(_, name) => Ok(Some(Vec::from_slice(alloc, names.text(name)?)?)),
+        Written::Folder(_) => Ok(None),
+        _ => Err(malformed("a file of a tree must be told")),
+    }
 }
 
 /// What a line says of a file that is written.

@@ -3,6 +3,7 @@
 use crate::expected::Expected;
 use crate::outside::Outcome;
 use row_files::{Change, Differences, RowFault, Tree};
+use shared_types::Memory;
 use std::alloc::Global;
 use tree_model::{MemFolder, Path};
 
@@ -11,35 +12,75 @@ pub fn differences(
     alloc: Global,
     tree: &Tree,
     outcome: &Outcome,
-    expected: &Expected<'_>,
+    expected: Expected<'_>,
 ) -> Result<Differences, RowFault> {
     let mut found = Differences::new(alloc);
-    compare_end(alloc, outcome, expected, &mut found)?;
-    for change in expected.changes {
-        compare_change(alloc, outcome, change, &mut found)?;
+    match compare(alloc, tree, outcome, expected, &mut found) {
+        Ok(()) => Ok(found),
+        Err(fault) => Err(fault),
     }
-    for path in outcome.folder.written() {
-        if !is_among(path.as_str(), expected.changes) {
-            found.push(path.as_str(), " is written, and must not be")?;
-        }
-    }
-    compare_kept(alloc, tree, outcome, expected.changes, &mut found)?;
-    Ok(found)
 }
 
-fn compare_end(
+fn compare(
     alloc: Global,
+    tree: &Tree,
     outcome: &Outcome,
-    expected: &Expected<'_>,
+    expected: Expected<'_>,
     found: &mut Differences,
 ) -> Result<(), RowFault> {
+    compare_status(alloc, outcome, expected, found)?;
+    compare_said(alloc, outcome, expected, found)?;
+    compare_changes(alloc, outcome, expected.changes, found)?;
+    compare_written(outcome, expected.changes, found)?;
+    compare_kept(alloc, tree, outcome, expected.changes, found)
+}
+
+fn compare_status(
+    alloc: Global,
+    outcome: &Outcome,
+    expected: Expected<'_>,
+    found: &mut Differences,
+) -> Result<(), Memory> {
     let wanted = format!(in alloc; "{}", expected.status)?;
     let got = format!(in alloc; "{}", outcome.status)?;
-    found.compare(alloc, "the status", wanted.as_bytes(), got.as_bytes())?;
-    match &expected.said {
-        Some(said) => found.compare(alloc, "the output", said.as_slice(), outcome.out.got())?,
-        None if outcome.out.got().is_empty() => found.push("the output", " must not be empty")?,
-        None => (),
+    found.compare(alloc, "the status", wanted.as_bytes(), got.as_bytes())
+}
+
+fn compare_said(
+    alloc: Global,
+    outcome: &Outcome,
+    expected: Expected<'_>,
+    found: &mut Differences,
+) -> Result<(), Memory> {
+    match expected.said {
+        Some(said) => found.compare(alloc, "the output", said, outcome.out.got()),
+        None if outcome.out.got().is_empty() => found.push("the output", " must not be empty"),
+        None => Ok(()),
+    }
+}
+
+fn compare_changes(
+    alloc: Global,
+    outcome: &Outcome,
+    changes: &[Change],
+    found: &mut Differences,
+) -> Result<(), RowFault> {
+    for change in changes {
+        compare_change(alloc, outcome, change, found)?;
+    }
+    Ok(())
+}
+
+// Whether no other files are written.
+fn compare_written(
+    outcome: &Outcome,
+    changes: &[Change],
+    found: &mut Differences,
+) -> Result<(), Memory> {
+    for path in outcome.folder.written() {
+        if !is_among(path.as_str(), changes) {
+            found.push(path.as_str(), " is written, and must not be")?;
+        }
     }
     Ok(())
 }
@@ -75,7 +116,19 @@ fn compare_kept(
     changes: &[Change],
     found: &mut Differences,
 ) -> Result<(), RowFault> {
-    for path in tree.paths(alloc)? {
+    let paths = tree.paths(alloc)?;
+    compare_paths(alloc, tree, outcome, changes, paths.as_slice(), found)
+}
+
+fn compare_paths(
+    alloc: Global,
+    tree: &Tree,
+    outcome: &Outcome,
+    changes: &[Change],
+    paths: &[&str],
+    found: &mut Differences,
+) -> Result<(), RowFault> {
+    for path in paths {
         if is_among(path, changes) {
             continue;
         }
@@ -93,11 +146,21 @@ fn compare_file(
     bytes: &[u8],
     found: &mut Differences,
 ) -> Result<(), RowFault> {
-    match folder.file(&Path::parse(alloc, path)?) {
-        None => found.push(path, " is no file")?,
-        Some(got) => found.compare(alloc, path, bytes, got)?,
+    let parsed = Path::parse(alloc, path)?;
+    Ok(compare_bytes(alloc, path, bytes, folder.file(&parsed), found)?)
+}
+
+fn compare_bytes(
+    alloc: Global,
+    path: &str,
+    wanted: &[u8],
+    got: Option<&[u8]>,
+    found: &mut Differences,
+) -> Result<(), Memory> {
+    match got {
+        None => found.push(path, " is no file"),
+        Some(got) => found.compare(alloc, path, wanted, got),
     }
-    Ok(())
 }
 
 /// Whether the run looked at these paths, in this order.
@@ -107,23 +170,35 @@ pub fn compare_looks(
     looks: &[String],
     found: &mut Differences,
 ) -> Result<(), RowFault> {
-    let mut wanted = String::new(alloc);
-    for path in looks {
-        wanted.push_str(path.as_str())?;
-        wanted.push_str("\n")?;
-    }
-    let mut got = String::new(alloc);
-    for path in outcome.folder.looked() {
-        got.push_str(path.as_str())?;
-        got.push_str("\n")?;
-    }
-    found.compare(
+    let wanted = words_text(alloc, looks)?;
+    let got = paths_text(alloc, outcome.folder.looked())?;
+    Ok(found.compare(
         alloc,
         "what is looked at",
         wanted.as_bytes(),
         got.as_bytes(),
-    )?;
-    Ok(())
+    )?)
+}
+
+fn words_text(alloc: Global, words: &[String]) -> Result<String, Memory> {
+    let mut text = String::new(alloc);
+    for word in words {
+        push_line(&mut text, word.as_str())?;
+    }
+    Ok(text)
+}
+
+fn paths_text(alloc: Global, paths: &[Path]) -> Result<String, Memory> {
+    let mut text = String::new(alloc);
+    for path in paths {
+        push_line(&mut text, path.as_str())?;
+    }
+    Ok(text)
+}
+
+fn push_line(text: &mut String, line: &str) -> Result<(), Memory> {
+    text.push_str(line)?;
+    text.push_str("\n")
 }
 
 /// Whether this is what the run shows.
@@ -135,18 +210,21 @@ pub fn compare_shown(
 ) -> Result<(), RowFault> {
     let wanted = showings_text(alloc, shown)?;
     let got = showings_text(alloc, outcome.shown.texts())?;
-    found.compare(alloc, "what is shown", wanted.as_bytes(), got.as_bytes())?;
-    Ok(())
+    Ok(found.compare(alloc, "what is shown", wanted.as_bytes(), got.as_bytes())?)
 }
 
 // The showings as a row has them.
-fn showings_text(alloc: Global, showings: &[String]) -> Result<String, RowFault> {
+fn showings_text(alloc: Global, showings: &[String]) -> Result<String, Memory> {
     let mut text = String::new(alloc);
     for showing in showings {
-        text.push_str("shown\n")?;
-        text.push_str(showing.as_str())?;
+        push_showing(&mut text, showing.as_str())?;
     }
     Ok(text)
+}
+
+fn push_showing(text: &mut String, showing: &str) -> Result<(), Memory> {
+    text.push_str("shown\n")?;
+    text.push_str(showing)
 }
 
 fn is_among(path: &str, changes: &[Change]) -> bool {
