@@ -2,7 +2,7 @@
 
 use crate::entry::{change_of, entry_of};
 use crate::heads::{Head, head_of};
-use crate::item::Item;
+use crate::item::{Item, line_of};
 use crate::names::Names;
 use crate::row::{Call, Change, Cut, Fails, Row, Run, Turns, Wanted};
 use crate::tree::Tree;
@@ -375,15 +375,10 @@ impl Reader {
     fn input(&mut self, alloc: Global, item: &Item, text: &str) -> Result<(), RowFault> {
         let run = last_of(&mut self.runs)?;
         match &item.block {
-            None => {
-                let line = format!(in alloc; "{text}\n")?;
-                let bytes = unescaped(alloc, line.as_str(), None)?;
-                run.input.extend_from_slice(bytes.as_slice())?;
-            }
-            Some(block) if text.is_empty() => run.input.extend_from_slice(block.as_slice())?,
-            Some(_) => return Err(malformed("an input stands on its line or in its block")),
+            None => push_line(alloc, &mut run.input, text),
+            Some(block) if text.is_empty() => Ok(run.input.extend_from_slice(block.as_slice())?),
+            Some(_) => Err(malformed("an input stands on its line or in its block")),
         }
-        Ok(())
     }
 
     // `CALL NUMBER, CALL NUMBER ..`
@@ -427,12 +422,11 @@ impl Reader {
     }
 
     fn want(&mut self, alloc: Global, item: &Item, text: &str) -> Result<(), RowFault> {
-        let wanted = wanted_of(alloc, item, text)?;
         let run = last_of(&mut self.runs)?;
         if run.wanted.is_some() {
             return Err(malformed("a run ends twice"));
         }
-        run.wanted = Some(wanted);
+        run.wanted = Some(wanted_of(alloc, item, text)?);
         Ok(())
     }
 
@@ -453,18 +447,12 @@ impl Reader {
 
     // A showing, whose block has a module on each line; or `never`.
     fn show(&mut self, alloc: Global, item: &Item, rest: &str) -> Result<(), RowFault> {
-        let text = text_of(alloc, item)?;
         let run = last_of(&mut self.runs)?;
-        match &mut run.shown {
-            None if rest.is_empty() => run.shown = Some(vec![in alloc; text]?),
-            None => {
-                item.without_block()?;
-                run.shown = Some(Vec::new(alloc));
-            }
-            Some(shown) if rest.is_empty() && !shown.is_empty() => shown.push(text)?,
-            Some(_) => return Err(malformed("a run shows something and never anything")),
+        if rest.is_empty() {
+            return show_text(alloc, &mut run.shown, text_of(alloc, item)?);
         }
-        Ok(())
+        item.without_block()?;
+        show_never(alloc, &mut run.shown)
     }
 
     // `CALL FIRST-LAST => WANTED`, or `CALL FIRST-LAST again`
@@ -473,6 +461,30 @@ impl Reader {
         last_of(&mut self.runs)?.turns.push(turns)?;
         Ok(())
     }
+}
+
+fn push_line(alloc: Global, input: &mut Vec<u8>, text: &str) -> Result<(), RowFault> {
+    let bytes = line_of(alloc, text)?;
+    Ok(input.extend_from_slice(bytes.as_slice())?)
+}
+
+fn show_text(alloc: Global, shown: &mut Option<Vec<String>>, text: String) -> Result<(), RowFault> {
+    match shown {
+        None => {
+            *shown = Some(vec![in alloc; text]?);
+            Ok(())
+        }
+        Some(texts) if !texts.is_empty() => Ok(texts.push(text)?),
+        Some(_) => Err(malformed("a run shows something and never anything")),
+    }
+}
+
+fn show_never(alloc: Global, shown: &mut Option<Vec<String>>) -> Result<(), RowFault> {
+    if shown.is_some() {
+        return Err(malformed("a run shows something and never anything"));
+    }
+    *shown = Some(Vec::new(alloc));
+    Ok(())
 }
 
 // `CALL NUMBER`

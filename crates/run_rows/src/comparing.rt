@@ -2,6 +2,7 @@
 
 use crate::expected::Expected;
 use crate::outside::Outcome;
+use crate::parts::push_all;
 use row_files::{Change, Differences, RowFault, Tree};
 use shared_types::Memory;
 use std::alloc::Global;
@@ -183,7 +184,7 @@ pub fn compare_looks(
 fn words_text(alloc: Global, words: &[String]) -> Result<String, Memory> {
     let mut text = String::new(alloc);
     for word in words {
-        push_line(&mut text, word.as_str())?;
+        push_all(&mut text, &[word.as_str(), "\n"])?;
     }
     Ok(text)
 }
@@ -191,14 +192,9 @@ fn words_text(alloc: Global, words: &[String]) -> Result<String, Memory> {
 fn paths_text(alloc: Global, paths: &[Path]) -> Result<String, Memory> {
     let mut text = String::new(alloc);
     for path in paths {
-        push_line(&mut text, path.as_str())?;
+        push_all(&mut text, &[path.as_str(), "\n"])?;
     }
     Ok(text)
-}
-
-fn push_line(text: &mut String, line: &str) -> Result<(), Memory> {
-    text.push_str(line)?;
-    text.push_str("\n")
 }
 
 /// Whether this is what the run shows.
@@ -217,14 +213,9 @@ pub fn compare_shown(
 fn showings_text(alloc: Global, showings: &[String]) -> Result<String, Memory> {
     let mut text = String::new(alloc);
     for showing in showings {
-        push_showing(&mut text, showing.as_str())?;
+        push_all(&mut text, &["shown\n", showing.as_str()])?;
     }
     Ok(text)
-}
-
-fn push_showing(text: &mut String, showing: &str) -> Result<(), Memory> {
-    text.push_str("shown\n")?;
-    text.push_str(showing)
 }
 
 fn is_among(path: &str, changes: &[Change]) -> bool {

@@ -5,6 +5,7 @@ use crate::comparing::differences;
 use crate::expected::{Ending, Expected};
 use crate::outcome::outcome_of;
 use crate::outside::Outcome;
+use crate::parts::push_all;
 use crate::replies::Replies;
 use row_files::{Change, Reader, Row, RowFault, Run};
 use shared_types::Memory;
@@ -51,17 +52,12 @@ fn tell(
 
 fn tell_row(alloc: Global, row: &Row, told: &mut String) -> Result<(), RowFault> {
     for run in row.runs.as_slice() {
-        push_line(told, ending_alone(alloc, row, run)?)?;
+        push_all(told, &[ending_alone(alloc, row, run)?, "\n"])?;
         if run.makes_again() {
-            push_line(told, ending_again(alloc, row, run)?)?;
+            push_all(told, &[ending_again(alloc, row, run)?, "\n"])?;
         }
     }
     Ok(())
-}
-
-fn push_line(told: &mut String, ending: &str) -> Result<(), Memory> {
-    told.push_str(ending)?;
-    told.push_str("\n")
 }
 
 fn ending_alone(alloc: Global, row: &Row, run: &Run) -> Result<&'static str, RowFault> {

@@ -13,6 +13,7 @@ mod endless;
 mod expected;
 mod outcome;
 mod outside;
+mod parts;
 mod pieces;
 mod repeating;
 mod replies;

@@ -5,6 +5,7 @@ use crate::comparing::{compare_looks, compare_shown, differences};
 use crate::expected::{Ending, Expected};
 use crate::outcome::outcome_of;
 use crate::outside::Outcome;
+use crate::parts::push_all;
 use crate::repeating::Told;
 use row_files::{
     Call, Change, Cut, Differences, Fails, Reader, Report, Row, RowFault, Run, Tree, Turns,
@@ -69,14 +70,9 @@ impl Tried {
             return Ok(());
         }
         self.push_place(alloc, trial.run.line)?;
-        for part in [trial.row.title.as_str(), ":"] {
-            self.told.push_str(part)?;
-        }
+        push_all(&mut self.told, &[trial.row.title.as_str(), ":"])?;
         self.push_words(trial.run.words.as_slice())?;
-        for part in [trial.apart, found.as_str(), "\n"] {
-            self.told.push_str(part)?;
-        }
-        Ok(())
+        push_all(&mut self.told, &[trial.apart, found.as_str(), "\n"])
     }
 
     fn push_place(&mut self, alloc: Global, line: u64) -> Result<(), Memory> {
@@ -86,8 +82,7 @@ impl Tried {
 
     fn push_words(&mut self, words: &[String]) -> Result<(), Memory> {
         for word in words {
-            self.told.push_str(" ")?;
-            self.told.push_str(word.as_str())?;
+            push_all(&mut self.told, &[" ", word.as_str()])?;
         }
         Ok(())
     }
