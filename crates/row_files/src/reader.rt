@@ -338,10 +338,10 @@ impl Reader {
     // The words of `ask`, and those that a short row adds.
     fn asked(&self, alloc: Global, added: &str) -> Result<Vec<String>, RowFault> {
         let mut words = copied(alloc, self.ask.words.as_slice())?;
-        for word in words_of(alloc, added)? {
-            words.push(word)?;
+        match push_words(&mut words, words_of(alloc, added)) {
+            Ok(()) => Ok(words),
+            Err(fault) => Err(fault),
         }
-        Ok(words)
     }
 
     // The run of a short row, which writes the files of `ask` where its status is 0.
@@ -461,6 +461,16 @@ impl Reader {
         last_of(&mut self.runs)?.turns.push(turns)?;
         Ok(())
     }
+}
+
+fn push_words(
+    words: &mut Vec<String>,
+    added: Result<Vec<String>, RowFault>,
+) -> Result<(), RowFault> {
+    for word in added? {
+        words.push(word)?;
+    }
+    Ok(())
 }
 
 fn push_line(alloc: Global, input: &mut Vec<u8>, text: &str) -> Result<(), RowFault> {
