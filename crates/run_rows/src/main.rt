@@ -6,25 +6,8 @@
 //! in a word how it ended. So the allocation that fails by its number can be any of the run: `.ci/memory.sh` does this.
 #![tactic(auto)]
 
-mod again;
-mod comparing;
-mod ending;
-mod endless;
-mod expected;
-mod outcome;
-mod outside;
-mod parts;
-mod pieces;
-mod repeating;
-mod replies;
-mod showings;
-mod trying;
-mod watched;
-
-use crate::ending::endings;
-use crate::endless::endless_line;
-use crate::trying::{Tried, try_lines};
 use row_files::{Reader, Report, RowFault};
+use run_tries::{Tried, endings, endless_line, try_lines};
 use shared_types::Memory;
 use std::alloc::Global;
 use std::rt::Runtime;

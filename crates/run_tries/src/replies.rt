@@ -6,7 +6,7 @@ use std::str;
 
 /// Where the parts of a session's output end: 0, and behind each line that is no line of a map, and behind each map.
 #[derive(Drop)]
-pub struct Replies {
+pub(crate) struct Replies {
     ends: Vec<usize>,
     /// Whether a map stands behind the part that ends there.
     are_fronts: Vec<bool>,

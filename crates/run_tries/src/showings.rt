@@ -10,7 +10,7 @@ use tree_model::Path;
 /// The showings of a run. Each slot has a number, by the order in which slots are shown first: in trace order, and one
 /// showing after another.
 #[derive(Drop)]
-pub struct Showings {
+pub(crate) struct Showings {
     /// Whether they are kept.
     is_told: bool,
     /// A text for each showing, with a module on each line.

@@ -20,14 +20,14 @@ use tree_spec::MOST_FILE_BYTES;
 
 /// How such a session ended.
 #[derive(Drop)]
-pub struct Repeated {
+pub(crate) struct Repeated {
     pub outcome: Outcome,
     pub told: Told,
 }
 
 /// How a session over a tree ends where these calls fail. Memory is wanting where it was before the first line was
 /// said.
-pub fn again_outcome(
+pub(crate) fn again_outcome(
     alloc: Global,
     tree: &Tree,
     run: &Run,

@@ -9,7 +9,7 @@ use tree_model::{MemFolder, MemSink};
 
 /// What is outside of a run.
 #[derive(Drop)]
-pub struct Outside {
+pub(crate) struct Outside {
     pub folder: Watched<MemFolder>,
     pub input: Pieces,
     pub out: MemSink,
@@ -17,7 +17,7 @@ pub struct Outside {
 }
 
 /// How a run ended, with what it left.
-pub struct Outcome {
+pub(crate) struct Outcome {
     pub status: u8,
     pub folder: Watched<MemFolder>,
     pub out: MemSink,

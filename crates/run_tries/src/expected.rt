@@ -5,7 +5,7 @@ use std::alloc::Global;
 
 /// The status, what is said, and the files that are written.
 #[derive(Clone, Copy)]
-pub struct Expected<'a> {
+pub(crate) struct Expected<'a> {
     pub status: u8,
     /// None where something is said that isn't told.
     pub said: Option<&'a [u8]>,
@@ -14,7 +14,7 @@ pub struct Expected<'a> {
 
 /// What `STATUS LINE` and the block below it ask for: the status, and what is said.
 #[derive(Drop)]
-pub struct Ending {
+pub(crate) struct Ending {
     status: u8,
     said: Option<Vec<u8>>,
 }
