@@ -39,45 +39,62 @@ impl Differences {
         if wanted == got {
             return Ok(());
         }
-        self.push(what, " must be")?;
-        self.show(alloc, wanted)?;
-        self.push(what, " is")?;
-        self.show(alloc, got)
+        self.tell(alloc, what, " must be", wanted)?;
+        self.tell(alloc, what, " is", got)
+    }
+
+    fn tell(&mut self, alloc: Global, what: &str, told: &str, bytes: &[u8]) -> Result<(), Memory> {
+        self.push(what, told)?;
+        self.show(alloc, bytes)
     }
 
     /// Tells something of what is named.
     pub fn push(&mut self, what: &str, told: &str) -> Result<(), Memory> {
-        for part in ["\n    ", what, told] {
-            self.text.push_str(part)?;
-        }
-        Ok(())
+        self.text.push_str("\n    ")?;
+        self.text.push_str(what)?;
+        self.text.push_str(told)
     }
 
     // Shows each line of a text behind a mark, as a row file has it.
     fn show(&mut self, alloc: Global, bytes: &[u8]) -> Result<(), Memory> {
         let front = bytes.get(..MOST_SHOWN).unwrap_or(bytes);
         let lossy = shown(alloc, front)?;
-        for line in lossy.as_str().split('\n') {
-            self.text.push_str("\n    | ")?;
-            self.text.push_str(line)?;
+        self.show_lines(lossy.as_str(), front.len() < bytes.len())
+    }
+
+    fn show_lines(&mut self, text: &str, is_cut: bool) -> Result<(), Memory> {
+        for line in text.split('\n') {
+            self.show_line(line)?;
         }
-        if front.len() < bytes.len() {
-            self.text.push_str("\n    ..")?;
-        }
-        Ok(())
+        self.text.push_str(if is_cut { "\n    .." } else { "" })
+    }
+
+    fn show_line(&mut self, line: &str) -> Result<(), Memory> {
+        self.text.push_str("\n    | ")?;
+        self.text.push_str(line)
     }
 }
 
 // The bytes as a text, with what isn't ASCII as escapes.
 fn shown(alloc: Global, bytes: &[u8]) -> Result<String, Memory> {
     let mut text = String::new(alloc);
-    for byte in bytes {
-        if byte.is_ascii_graphic() || *byte == b' ' || *byte == b'\n' {
-            text.push(char::from(*byte))?;
-        } else {
-            let escape = format!(in alloc; "\\x{byte:02x}")?;
-            text.push_str(escape.as_str())?;
-        }
+    match push_all(alloc, &mut text, bytes) {
+        Ok(()) => Ok(text),
+        Err(fault) => Err(fault),
     }
-    Ok(text)
+}
+
+fn push_all(alloc: Global, text: &mut String, bytes: &[u8]) -> Result<(), Memory> {
+    for byte in bytes {
+        push_byte(alloc, text, *byte)?;
+    }
+    Ok(())
+}
+
+fn push_byte(alloc: Global, text: &mut String, byte: u8) -> Result<(), Memory> {
+    if byte.is_ascii_graphic() || byte == b' ' || byte == b'\n' {
+        return text.push(char::from(byte));
+    }
+    let escape = format!(in alloc; "\\x{byte:02x}")?;
+    text.push_str(escape.as_str())
 }

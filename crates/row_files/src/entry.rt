@@ -22,26 +22,52 @@ pub(crate) fn entry_of(
     line: &str,
     turn: Option<u64>,
 ) -> Result<Stands, RowFault> {
-    let (path, bytes) = match written_of(line)? {
-        Written::Text(path, text) => {
-            item.without_block()?;
-            (path, Some(unescaped(alloc, text, turn)?))
-        }
-        Written::Block(path) => (path, Some(block_of(alloc, item)?)),
-        Written::Named(path, name) => {
-            item.without_block()?;
-            (path, Some(Vec::from_slice(alloc, names.text(name)?)?))
-        }
-        Written::Folder(path) => {
-            item.without_block()?;
-            (path, None)
-        }
-        Written::Untold(_) => return Err(malformed("a file of a tree must be told")),
-    };
+    let written = written_of(line)?;
     Ok(Stands {
-        path: unescaped_text(alloc, path, turn)?,
-        bytes,
+        bytes: bytes_of(alloc, names, item, written, turn)?,
+        path: unescaped_text(alloc, path_of(written), turn)?,
     })
+}
+
+fn path_of(written: Written<'_>) -> &str {
+    match written {
+        Written::Text(path, _) => path,
+        Written::Block(path) => path,
+        Written::Named(path, _) => path,
+        Written::Untold(path) => path,
+        Written::Folder(path) => path,
+    }
+}
+
+// The bytes of a file; None for a folder.
+fn bytes_of(
+    alloc: Global,
+    names: &Names,
+    item: &Item,
+    written: Written<'_>,
+    turn: Option<u64>,
+) -> Result<Option<Vec<u8>>, RowFault> {
+    if let Written::Block(_) = written {
+        return file_of(block_of(alloc, item));
+    }
+    item.without_block()?;
+    match written {
+        Written::Text(_, text) => file_of(unescaped(alloc, text, turn)),
+        Written::Named(_, name) => file_of(named(alloc, names, name)),
+        Written::Folder(_) => Ok(None),
+        _ => Err(malformed("a file of a tree must be told")),
+    }
+}
+
+fn file_of(bytes: Result<Vec<u8>, RowFault>) -> Result<Option<Vec<u8>>, RowFault> {
+    match bytes {
+        Ok(bytes) => Ok(Some(bytes)),
+        Err(fault) => Err(fault),
+    }
+}
+
+fn named(alloc: Global, names: &Names, name: &str) -> Result<Vec<u8>, RowFault> {
+    Ok(Vec::from_slice(alloc, names.text(name)?)?)
 }
 
 /// What a line says of a file that is written.
@@ -51,16 +77,31 @@ pub(crate) fn change_of(
     item: &Item,
     line: &str,
 ) -> Result<Change, RowFault> {
-    if let Written::Untold(path) = written_of(line)? {
-        item.without_block()?;
-        return Ok(Change {
-            path: unescaped_text(alloc, path, None)?,
-            bytes: None,
-        });
+    match written_of(line)? {
+        Written::Untold(path) => untold(alloc, item, path),
+        written => told(alloc, names, item, written),
     }
-    let Stands { path, bytes } = entry_of(alloc, names, item, line, None)?;
-    if bytes.is_none() {
-        return Err(malformed("a folder isn't written"));
+}
+
+fn untold(alloc: Global, item: &Item, path: &str) -> Result<Change, RowFault> {
+    item.without_block()?;
+    Ok(Change {
+        path: unescaped_text(alloc, path, None)?,
+        bytes: None,
+    })
+}
+
+fn told(
+    alloc: Global,
+    names: &Names,
+    item: &Item,
+    written: Written<'_>,
+) -> Result<Change, RowFault> {
+    match bytes_of(alloc, names, item, written, None)? {
+        None => Err(malformed("a folder isn't written")),
+        Some(bytes) => Ok(Change {
+            path: unescaped_text(alloc, path_of(written), None)?,
+            bytes: Some(bytes),
+        }),
     }
-    Ok(Change { path, bytes })
 }

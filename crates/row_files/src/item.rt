@@ -29,8 +29,10 @@ impl Item {
         if is_nothing(self.head.as_str()) {
             return Err(malformed("a block stands below nothing"));
         }
-        let line = format!(in alloc; "{text}\n")?;
-        let bytes = unescaped(alloc, line.as_str(), None)?;
+        self.push_bytes(line_of(alloc, text)?)
+    }
+
+    fn push_bytes(&mut self, bytes: Vec<u8>) -> Result<(), RowFault> {
         match &mut self.block {
             None => self.block = Some(bytes),
             Some(block) => block.extend_from_slice(bytes.as_slice())?,
@@ -45,6 +47,12 @@ impl Item {
             Some(_) => Err(malformed("this line has no block")),
         }
     }
+}
+
+/// The bytes of a line with escapes, and its end.
+pub(crate) fn line_of(alloc: Global, text: &str) -> Result<Vec<u8>, RowFault> {
+    let line = format!(in alloc; "{text}\n")?;
+    unescaped(alloc, line.as_str(), None)
 }
 
 fn block_text(text: &str) -> Option<&str> {

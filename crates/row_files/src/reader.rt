@@ -2,9 +2,9 @@
 
 use crate::entry::{change_of, entry_of};
 use crate::heads::{Head, head_of};
-use crate::item::Item;
+use crate::item::{Item, line_of};
 use crate::names::Names;
-use crate::row::{Call, Change, Cut, Row, Run, Turns, Wanted};
+use crate::row::{Call, Change, Cut, Fails, Row, Run, Turns, Wanted};
 use crate::tree::Tree;
 use crate::words::{copied, words_of};
 use row_texts::{RowFault, malformed, number_of, range_of, unescaped, unescaped_text};
@@ -103,21 +103,24 @@ impl Reader {
     fn finish(&mut self, alloc: Global) -> Result<Option<Row>, RowFault> {
         let nothing = Item::new(alloc, self.read, "")?;
         let item = mem::replace(&mut self.item, nothing);
+        self.understand(alloc, &item)
+    }
+
+    fn understand(&mut self, alloc: Global, item: &Item) -> Result<Option<Row>, RowFault> {
         self.line = item.line;
         match head_of(item.head.as_str()) {
             Head::Nothing => Ok(None),
-            Head::Text(text) => self.begin_text(alloc, &item, text),
-            Head::Tree(name) => self.begin(alloc, &item, Part::Tree, name),
-            Head::Row(title) => self.begin(alloc, &item, Part::Row, title),
-            Head::Ask(words) => self.begin_ask(alloc, &item, words),
+            Head::Text(text) => self.begin_text(alloc, item, text),
+            Head::Tree(name) => self.begin(alloc, item, Part::Tree, name),
+            Head::Row(title) => self.begin(alloc, item, Part::Row, title),
+            Head::Ask(words) => self.begin_ask(alloc, item, words),
             head => {
-                self.go_on(alloc, &item, head)?;
+                self.go_on(alloc, item, head)?;
                 Ok(None)
             }
         }
     }
 
-    // `NAME: TEXT`, or `NAME` above a block.
     fn begin_text(
         &mut self,
         alloc: Global,
@@ -125,18 +128,25 @@ impl Reader {
         text: &str,
     ) -> Result<Option<Row>, RowFault> {
         let ended = self.end_part(alloc)?;
+        match self.name_text(alloc, item, text) {
+            Ok(()) => Ok(ended),
+            Err(fault) => Err(fault),
+        }
+    }
+
+    // `NAME: TEXT`, or `NAME` above a block.
+    fn name_text(&mut self, alloc: Global, item: &Item, text: &str) -> Result<(), RowFault> {
         match (&item.block, text.split_once(": ")) {
             (None, Some((name, text))) => {
                 let bytes = unescaped(alloc, text, None)?;
-                self.names.name_text(alloc, name, bytes)?;
+                self.names.name_text(alloc, name, bytes)
             }
             (Some(block), None) => {
                 let bytes = Vec::from_slice(alloc, block.as_slice())?;
-                self.names.name_text(alloc, text, bytes)?;
+                self.names.name_text(alloc, text, bytes)
             }
-            _ => return Err(malformed("a text stands on its line or in its block")),
+            _ => Err(malformed("a text stands on its line or in its block")),
         }
-        Ok(ended)
     }
 
     fn begin(
@@ -147,6 +157,19 @@ impl Reader {
         name: &str,
     ) -> Result<Option<Row>, RowFault> {
         let ended = self.end_part(alloc)?;
+        match self.begin_part(alloc, item, part, name) {
+            Ok(()) => Ok(ended),
+            Err(fault) => Err(fault),
+        }
+    }
+
+    fn begin_part(
+        &mut self,
+        alloc: Global,
+        item: &Item,
+        part: Part,
+        name: &str,
+    ) -> Result<(), RowFault> {
         item.without_block()?;
         if name.is_empty() {
             return Err(malformed("a row or a tree has no name"));
@@ -154,7 +177,7 @@ impl Reader {
         self.part = part;
         self.begun = item.line;
         self.name = String::from_str(alloc, name)?;
-        Ok(ended)
+        Ok(())
     }
 
     fn begin_ask(
@@ -164,38 +187,54 @@ impl Reader {
         words: &str,
     ) -> Result<Option<Row>, RowFault> {
         let ended = self.begin(alloc, item, Part::Ask, words)?;
+        match self.ask_with(alloc, words) {
+            Ok(()) => Ok(ended),
+            Err(fault) => Err(fault),
+        }
+    }
+
+    fn ask_with(&mut self, alloc: Global, words: &str) -> Result<(), RowFault> {
         self.ask = Ask {
             words: words_of(alloc, words)?,
             changes: Vec::new(alloc),
         };
-        Ok(ended)
+        Ok(())
     }
 
     // Ends the row, the tree or what else the lines before belong to, and hands out the row.
     fn end_part(&mut self, alloc: Global) -> Result<Option<Row>, RowFault> {
         let part = self.part;
         self.part = Part::Nothing;
-        let tree = mem::replace(&mut self.tree, Tree::new(alloc));
-        let runs = mem::replace(&mut self.runs, Vec::new(alloc));
-        let title = mem::replace(&mut self.name, String::new(alloc));
         match part {
             Part::Nothing => Ok(None),
             Part::Ask => Ok(None),
             Part::Tree => {
-                self.names.name_tree(title, tree)?;
+                self.end_tree(alloc)?;
                 Ok(None)
             }
-            Part::Row => {
-                let read = self.line;
+            Part::Row => Ok(Some(self.end_row(alloc)?)),
+        }
+    }
+
+    fn end_tree(&mut self, alloc: Global) -> Result<(), RowFault> {
+        let tree = mem::replace(&mut self.tree, Tree::new(alloc));
+        let name = mem::replace(&mut self.name, String::new(alloc));
+        self.names.name_tree(name, tree)
+    }
+
+    // The line that is at fault in a row that isn't whole is the first one.
+    fn end_row(&mut self, alloc: Global) -> Result<Row, RowFault> {
+        let row = Row {
+            title: mem::replace(&mut self.name, String::new(alloc)),
+            line: self.begun,
+            tree: mem::replace(&mut self.tree, Tree::new(alloc)),
+            runs: mem::replace(&mut self.runs, Vec::new(alloc)),
+        };
+        match are_whole(row.runs.as_slice()) {
+            Ok(()) => Ok(row),
+            Err(fault) => {
                 self.line = self.begun;
-                are_whole(runs.as_slice())?;
-                self.line = read;
-                Ok(Some(Row {
-                    title,
-                    line: self.begun,
-                    tree,
-                    runs,
-                }))
+                Err(fault)
             }
         }
     }
@@ -290,17 +329,36 @@ impl Reader {
         if self.part != Part::Row || self.ask.words.is_empty() {
             return Err(malformed("a short row stands in no row, or behind no `ask`"));
         }
-        let mut words = copied(alloc, self.ask.words.as_slice())?;
-        for word in words_of(alloc, asked)? {
-            words.push(word)?;
-        }
-        let mut run = Run::new(alloc, item.line, false, words);
-        run.wanted = Some(wanted_of(alloc, item, wanted)?);
-        if wanted.starts_with("0 ") {
-            run.changes = changes_of(alloc, self.ask.changes.as_slice())?;
-        }
+        let words = self.asked(alloc, asked)?;
+        let run = self.short_run(alloc, item, wanted, words)?;
         self.runs.push(run)?;
         Ok(())
+    }
+
+    // The words of `ask`, and those that a short row adds.
+    fn asked(&self, alloc: Global, added: &str) -> Result<Vec<String>, RowFault> {
+        let mut words = copied(alloc, self.ask.words.as_slice())?;
+        match push_words(&mut words, words_of(alloc, added)) {
+            Ok(()) => Ok(words),
+            Err(fault) => Err(fault),
+        }
+    }
+
+    // The run of a short row, which writes the files of `ask` where its status is 0.
+    fn short_run(
+        &self,
+        alloc: Global,
+        item: &Item,
+        text: &str,
+        words: Vec<String>,
+    ) -> Result<Run, RowFault> {
+        let wanted = wanted_of(alloc, item, text)?;
+        let changes = if text.starts_with("0 ") {
+            changes_of(alloc, self.ask.changes.as_slice())?
+        } else {
+            Vec::new(alloc)
+        };
+        Ok(Run::short(alloc, item.line, words, wanted, changes))
     }
 
     fn change(&mut self, alloc: Global, item: &Item, file: &str) -> Result<(), RowFault> {
@@ -317,15 +375,10 @@ impl Reader {
     fn input(&mut self, alloc: Global, item: &Item, text: &str) -> Result<(), RowFault> {
         let run = last_of(&mut self.runs)?;
         match &item.block {
-            None => {
-                let line = format!(in alloc; "{text}\n")?;
-                let bytes = unescaped(alloc, line.as_str(), None)?;
-                run.input.extend_from_slice(bytes.as_slice())?;
-            }
-            Some(block) if text.is_empty() => run.input.extend_from_slice(block.as_slice())?,
-            Some(_) => return Err(malformed("an input stands on its line or in its block")),
+            None => push_line(alloc, &mut run.input, text),
+            Some(block) if text.is_empty() => Ok(run.input.extend_from_slice(block.as_slice())?),
+            Some(_) => Err(malformed("an input stands on its line or in its block")),
         }
-        Ok(())
     }
 
     // `CALL NUMBER, CALL NUMBER ..`
@@ -333,10 +386,7 @@ impl Reader {
         item.without_block()?;
         let run = last_of(&mut self.runs)?;
         for call in calls.split(", ") {
-            let Some((name, number)) = call.split_once(' ') else {
-                return Err(malformed("a call that fails wants its number"));
-            };
-            run.fails.push(Call::parse(name)?, number_of(number)?)?;
+            push_call(&mut run.fails, call)?;
         }
         Ok(())
     }
@@ -372,21 +422,21 @@ impl Reader {
     }
 
     fn want(&mut self, alloc: Global, item: &Item, text: &str) -> Result<(), RowFault> {
-        let wanted = wanted_of(alloc, item, text)?;
         let run = last_of(&mut self.runs)?;
         if run.wanted.is_some() {
             return Err(malformed("a run ends twice"));
         }
-        run.wanted = Some(wanted);
+        run.wanted = Some(wanted_of(alloc, item, text)?);
         Ok(())
     }
 
     // The block has a path on each line.
     fn look(&mut self, alloc: Global, item: &Item) -> Result<(), RowFault> {
-        let mut looks = Vec::new(alloc);
-        for path in text_of(alloc, item)?.lines() {
-            looks.push(String::from_str(alloc, path)?)?;
-        }
+        let text = text_of(alloc, item)?;
+        self.look_at(lines_of(alloc, text.as_str())?)
+    }
+
+    fn look_at(&mut self, looks: Vec<String>) -> Result<(), RowFault> {
         let run = last_of(&mut self.runs)?;
         if run.looks.is_some() {
             return Err(malformed("a run's looks stand twice"));
@@ -397,34 +447,61 @@ impl Reader {
 
     // A showing, whose block has a module on each line; or `never`.
     fn show(&mut self, alloc: Global, item: &Item, rest: &str) -> Result<(), RowFault> {
-        let text = text_of(alloc, item)?;
         let run = last_of(&mut self.runs)?;
-        match &mut run.shown {
-            None if rest.is_empty() => run.shown = Some(vec![in alloc; text]?),
-            None => {
-                item.without_block()?;
-                run.shown = Some(Vec::new(alloc));
-            }
-            Some(shown) if rest.is_empty() && !shown.is_empty() => shown.push(text)?,
-            Some(_) => return Err(malformed("a run shows something and never anything")),
+        if rest.is_empty() {
+            return show_text(alloc, &mut run.shown, text_of(alloc, item)?);
         }
-        Ok(())
+        item.without_block()?;
+        show_never(alloc, &mut run.shown)
     }
 
     // `CALL FIRST-LAST => WANTED`, or `CALL FIRST-LAST again`
     fn turn(&mut self, alloc: Global, item: &Item, turns: &str) -> Result<(), RowFault> {
-        let (calls, wanted) = turned(alloc, item, turns)?;
-        let Some((name, range)) = calls.split_once(' ') else {
-            return Err(malformed("calls that fail in turn want their numbers"));
-        };
-        let (first, last) = range_of(range)?;
-        last_of(&mut self.runs)?.turns.push(Turns {
-            call: Call::parse(name)?,
-            first,
-            last,
-            wanted,
-        })?;
+        let turns = turns_of(alloc, item, turns)?;
+        last_of(&mut self.runs)?.turns.push(turns)?;
         Ok(())
+    }
+}
+
+fn push_words(
+    words: &mut Vec<String>,
+    added: Result<Vec<String>, RowFault>,
+) -> Result<(), RowFault> {
+    for word in added? {
+        words.push(word)?;
+    }
+    Ok(())
+}
+
+fn push_line(alloc: Global, input: &mut Vec<u8>, text: &str) -> Result<(), RowFault> {
+    let bytes = line_of(alloc, text)?;
+    Ok(input.extend_from_slice(bytes.as_slice())?)
+}
+
+fn show_text(alloc: Global, shown: &mut Option<Vec<String>>, text: String) -> Result<(), RowFault> {
+    match shown {
+        None => {
+            *shown = Some(vec![in alloc; text]?);
+            Ok(())
+        }
+        Some(texts) if !texts.is_empty() => Ok(texts.push(text)?),
+        Some(_) => Err(malformed("a run shows something and never anything")),
+    }
+}
+
+fn show_never(alloc: Global, shown: &mut Option<Vec<String>>) -> Result<(), RowFault> {
+    if shown.is_some() {
+        return Err(malformed("a run shows something and never anything"));
+    }
+    *shown = Some(Vec::new(alloc));
+    Ok(())
+}
+
+// `CALL NUMBER`
+fn push_call(fails: &mut Fails, call: &str) -> Result<(), RowFault> {
+    match call.split_once(' ') {
+        None => Err(malformed("a call that fails wants its number")),
+        Some((name, number)) => fails.push(Call::parse(name)?, number_of(number)?),
     }
 }
 
@@ -439,6 +516,14 @@ fn text_of(alloc: Global, item: &Item) -> Result<String, RowFault> {
     }
 }
 
+fn lines_of(alloc: Global, text: &str) -> Result<Vec<String>, RowFault> {
+    let mut lines = Vec::new(alloc);
+    for line in text.lines() {
+        lines.push(String::from_str(alloc, line)?)?;
+    }
+    Ok(lines)
+}
+
 // The path of a file that is cut; None for the input.
 fn cut_path(alloc: Global, path: &str) -> Result<Option<String>, RowFault> {
     if path == "<" {
@@ -448,13 +533,27 @@ fn cut_path(alloc: Global, path: &str) -> Result<Option<String>, RowFault> {
 }
 
 // The calls that fail in turn, and what must come then.
-fn turned<'a>(
-    alloc: Global,
-    item: &Item,
-    turns: &'a str,
-) -> Result<(&'a str, Option<Wanted>), RowFault> {
+fn turns_of(alloc: Global, item: &Item, turns: &str) -> Result<Turns, RowFault> {
+    let (calls, wanted) = turned(item, turns)?;
+    let Some((name, range)) = calls.split_once(' ') else {
+        return Err(malformed("calls that fail in turn want their numbers"));
+    };
+    let call = Call::parse(name)?;
+    let (first, last) = range_of(range)?;
+    Ok(Turns {
+        call,
+        first,
+        last,
+        wanted: match wanted {
+            None => None,
+            Some(wanted) => Some(wanted_of(alloc, item, wanted)?),
+        },
+    })
+}
+
+fn turned<'a>(item: &Item, turns: &'a str) -> Result<(&'a str, Option<&'a str>), RowFault> {
     if let Some((calls, wanted)) = turns.split_once(" => ") {
-        return Ok((calls, Some(wanted_of(alloc, item, wanted)?)));
+        return Ok((calls, Some(wanted)));
     }
     item.without_block()?;
     match turns.strip_suffix(" again") {

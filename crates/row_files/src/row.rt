@@ -166,6 +166,31 @@ impl Run {
         }
     }
 
+    // A run that has all in its line and in what is asked above it.
+    pub(crate) fn short(
+        alloc: Global,
+        line: u64,
+        words: Vec<String>,
+        wanted: Wanted,
+        changes: Vec<Change>,
+    ) -> Run {
+        Run {
+            line,
+            goes_on: false,
+            is_gone_on: false,
+            words,
+            input: Vec::new(alloc),
+            piece: None,
+            fails: Fails::none(alloc),
+            cut: None,
+            wanted: Some(wanted),
+            changes,
+            looks: None,
+            shown: None,
+            turns: Vec::new(alloc),
+        }
+    }
+
     /// Whether edits are made again for which a call failed.
     pub fn makes_again(&self) -> bool {
         for turns in self.turns.as_slice() {

@@ -54,6 +54,17 @@ impl Splitting {
         self.quote = Some(quote);
         Ok(())
     }
+
+    fn take_all(&mut self, alloc: Global, text: &str) -> Result<(), RowFault> {
+        for character in text.chars() {
+            self.take(alloc, character)?;
+        }
+        self.end()?;
+        match self.quote {
+            None => Ok(()),
+            Some(_) => Err(malformed("a quoted word doesn't end")),
+        }
+    }
 }
 
 /// The words of a text with escapes. Spaces are between words; what stands between two `'` or two `"` is as it is.
@@ -64,14 +75,10 @@ pub(crate) fn words_of(alloc: Global, text: &str) -> Result<Vec<String>, RowFaul
         word: None,
         quote: None,
     };
-    for character in text.as_str().chars() {
-        splitting.take(alloc, character)?;
+    match splitting.take_all(alloc, text.as_str()) {
+        Ok(()) => Ok(splitting.words),
+        Err(fault) => Err(fault),
     }
-    splitting.end()?;
-    if splitting.quote.is_some() {
-        return Err(malformed("a quoted word doesn't end"));
-    }
-    Ok(splitting.words)
 }
 
 /// Copies of words.

@@ -6,24 +6,8 @@
 //! in a word how it ended. So the allocation that fails by its number can be any of the run: `.ci/memory.sh` does this.
 #![tactic(auto)]
 
-mod again;
-mod comparing;
-mod ending;
-mod endless;
-mod expected;
-mod outcome;
-mod outside;
-mod pieces;
-mod repeating;
-mod replies;
-mod showings;
-mod trying;
-mod watched;
-
-use crate::ending::endings;
-use crate::endless::endless_line;
-use crate::trying::{Tried, try_lines};
-use row_files::{Reader, Report};
+use row_files::{Reader, Report, RowFault};
+use run_tries::{Tried, endings, endless_line, try_lines};
 use shared_types::Memory;
 use std::alloc::Global;
 use std::rt::Runtime;
@@ -62,6 +46,16 @@ fn try_file<R: Runtime + AllocGlobal>(
     let text = fs::read_to_string(rt, name)?;
     let mut tried = Tried::new(rt.alloc(), name)?;
     let ended = try_lines(rt.alloc(), reader, text.as_str(), &mut tried);
+    tell_tried(rt, name, &tried, ended, totals)
+}
+
+fn tell_tried<R: Runtime + AllocGlobal>(
+    rt: &R,
+    name: &str,
+    tried: &Tried,
+    ended: Result<(), RowFault>,
+    totals: &mut Totals,
+) -> io::Result<()> {
     rt.print(tried.told())?;
     match ended {
         Ok(()) => Ok(totals.add(rt.alloc(), name, tried.report())?),
@@ -74,15 +68,32 @@ fn try_file<R: Runtime + AllocGlobal>(
 
 // Tries the rows of all files that the words name.
 fn try_all<R: Runtime + AllocGlobal>(rt: &R) -> io::Result<()> {
-    let Ok(mut reader) = Reader::new(rt.alloc()) else {
-        return Err(io::Error::other("no memory"));
-    };
     let mut totals = Totals::new(rt.alloc());
+    try_files(rt, &mut totals)?;
+    tell_totals(rt, &totals)
+}
+
+fn try_files<R: Runtime + AllocGlobal>(rt: &R, totals: &mut Totals) -> io::Result<()> {
+    match Reader::new(rt.alloc()) {
+        Err(_) => Err(io::Error::other("no memory")),
+        Ok(mut reader) => try_words(rt, &mut reader, totals),
+    }
+}
+
+fn try_words<R: Runtime + AllocGlobal>(
+    rt: &R,
+    reader: &mut Reader,
+    totals: &mut Totals,
+) -> io::Result<()> {
     let mut words = env::args(rt)?;
     words.next();
     for word in words {
-        try_file(rt, &mut reader, word.as_str(), &mut totals)?;
+        try_file(rt, reader, word.as_str(), totals)?;
     }
+    Ok(())
+}
+
+fn tell_totals<R: Runtime + AllocGlobal>(rt: &R, totals: &Totals) -> io::Result<()> {
     let line = totals.report.line(rt.alloc(), "all files")?;
     rt.print(totals.lines.as_str())?;
     rt.print(endless_line(rt.alloc())?.as_str())?;
@@ -98,17 +109,24 @@ fn tell_endings<R: Runtime + AllocGlobal>(rt: &R, allocations: u32) -> io::Resul
     for number in 0..allocations {
         let _ = Box::new(rt.alloc(), number);
     }
+    tell_words(rt)
+}
+
+fn tell_words<R: Runtime + AllocGlobal>(rt: &R) -> io::Result<()> {
     let mut words = env::args(rt)?;
     words.next();
     for word in words {
-        let text = fs::read_to_string(rt, word.as_str())?;
-        let told = endings(rt.alloc(), text.as_str());
-        match told {
-            Ok(told) => rt.print(told.as_str())?,
-            Err(_) => println!(rt; "no memory for the row itself")?,
-        }
+        tell_file(rt, word.as_str())?;
     }
     Ok(())
+}
+
+fn tell_file<R: Runtime + AllocGlobal>(rt: &R, name: &str) -> io::Result<()> {
+    let text = fs::read_to_string(rt, name)?;
+    match endings(rt.alloc(), text.as_str()) {
+        Ok(told) => rt.print(told.as_str()),
+        Err(_) => println!(rt; "no memory for the row itself"),
+    }
 }
 
 fn main(rt: HostRuntime) -> io::Result<()> {

@@ -27,7 +27,7 @@ fn status_of<L: Ledger>(alloc: Global, words: &[String], outside: &mut Outside, 
 }
 
 /// How a run over a tree ends, with this input, where these calls fail.
-pub fn outcome_of(
+pub(crate) fn outcome_of(
     alloc: Global,
     tree: &Tree,
     run: &Run,

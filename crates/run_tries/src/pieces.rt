@@ -14,7 +14,7 @@ struct Piece {
 /// A source that gives bytes of one piece at a time, of which the calls with given numbers fail. They are numbered from
 /// 1.
 #[derive(Drop)]
-pub struct Pieces {
+pub(crate) struct Pieces {
     pieces: Vec<Piece>,
     at: usize,
     takes: u64,
@@ -25,27 +25,31 @@ pub struct Pieces {
 impl Pieces {
     /// A source of these bytes in pieces of at most so many, of which the calls with these numbers fail.
     pub fn new(alloc: Global, bytes: &[u8], most: usize, takes: &[u64]) -> Result<Pieces, Memory> {
-        let mut pieces = Vec::new(alloc);
-        let mut rest = bytes;
-        for _ in 0..bytes.len() {
-            if rest.is_empty() {
-                break;
-            }
-            let (piece, behind) = rest.split_at_checked(most.max(1)).unwrap_or((rest, &[]));
-            pieces.push(Piece {
-                source: MemSource::new(alloc, piece, &[])?,
-                left: piece.len(),
-            })?;
-            rest = behind;
-        }
         Ok(Pieces {
-            pieces,
+            pieces: pieces_of(alloc, bytes, most.max(1))?,
             at: 0,
             takes: 0,
             faults: 0,
             failing: Vec::from_slice(alloc, takes)?,
         })
     }
+}
+
+fn pieces_of(alloc: Global, bytes: &[u8], most: usize) -> Result<Vec<Piece>, Memory> {
+    let mut pieces = Vec::new(alloc);
+    let mut rest = bytes;
+    for _ in 0..bytes.len() {
+        if rest.is_empty() {
+            break;
+        }
+        let (piece, behind) = rest.split_at_checked(most).unwrap_or((rest, &[]));
+        pieces.push(Piece {
+            source: MemSource::new(alloc, piece, &[])?,
+            left: piece.len(),
+        })?;
+        rest = behind;
+    }
+    Ok(pieces)
 }
 
 impl Source for Pieces {

@@ -1,4 +1,4 @@
-use Rattle.run_rows.proofs.endless.endless_line.Given as goal
+use Rattle.run_tries.proofs.outcome.outcome_of.Given as goal
 
 abbrev pub ghosts-status_of : goal.ghosts-status_of
 ghosts-status_of a = record { name = a.blank.name; parts = a.blank.parts }

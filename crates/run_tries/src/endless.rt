@@ -66,7 +66,7 @@ impl Folder for Endless {
 
 fn words_of(alloc: Global) -> Result<Vec<String>, Memory> {
     let mut words = Vec::new(alloc);
-    for word in WORDS {
+    for word in &WORDS {
         words.push(String::from_str(alloc, word)?)?;
     }
     Ok(words)

@@ -6,7 +6,7 @@ use std::str;
 
 /// Where the parts of a session's output end: 0, and behind each line that is no line of a map, and behind each map.
 #[derive(Drop)]
-pub struct Replies {
+pub(crate) struct Replies {
     ends: Vec<usize>,
     /// Whether a map stands behind the part that ends there.
     are_fronts: Vec<bool>,
@@ -18,6 +18,13 @@ impl Replies {
             ends: vec![in alloc; 0]?,
             are_fronts: vec![in alloc; false]?,
         };
+        match replies.push_all(said) {
+            Ok(()) => Ok(replies),
+            Err(fault) => Err(fault),
+        }
+    }
+
+    fn push_all(&mut self, said: &[u8]) -> Result<(), Memory> {
         let mut end = 0;
         for _ in 0..said.len() {
             let Some(line) = line_at(said, end) else {
@@ -25,13 +32,13 @@ impl Replies {
             };
             end = end.saturating_add(line.len()).saturating_add(1);
             let map = map_bytes(line);
-            replies.push(end, map > 0)?;
+            self.push(end, map > 0)?;
             if map > 0 {
                 end = end.saturating_add(map);
-                replies.push(end, false)?;
+                self.push(end, false)?;
             }
         }
-        Ok(replies)
+        Ok(())
     }
 
     fn push(&mut self, end: usize, is_front: bool) -> Result<(), Memory> {

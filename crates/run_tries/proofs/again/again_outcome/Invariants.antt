@@ -1,4 +1,4 @@
-use Rattle.run_rows.proofs.again.again_outcome.Given as goal
+use Rattle.run_tries.proofs.again.again_outcome.Given as goal
 
 abbrev pub ghosts-held : goal.ghosts-held
 ghosts-held a = record { name = a.blank.name; parts = a.blank.parts }

@@ -5,7 +5,7 @@ use tree_model::{Failed, Folder, Look, LookFault, Path, Paths};
 
 /// A folder with the paths that were looked at and those that were written, in their order.
 #[derive(Drop)]
-pub struct Watched<F> {
+pub(crate) struct Watched<F> {
     folder: F,
     alloc: Global,
     looked: Paths,

@@ -1,5 +1,6 @@
 //! What a watch is shown of a session, as rows tell it.
 
+use crate::parts::push_all;
 use module_graph::{ModuleView, Slot, View};
 use session_watch::{MemWatch, Watch};
 use shared_types::Memory;
@@ -9,7 +10,7 @@ use tree_model::Path;
 /// The showings of a run. Each slot has a number, by the order in which slots are shown first: in trace order, and one
 /// showing after another.
 #[derive(Drop)]
-pub struct Showings {
+pub(crate) struct Showings {
     /// Whether they are kept.
     is_told: bool,
     /// A text for each showing, with a module on each line.
@@ -117,9 +118,7 @@ impl Showings {
         text: &mut String,
     ) -> Result<(), Memory> {
         self.push_number(alloc, Some(slot), text)?;
-        for part in [" ", module.path().as_str(), module.suffix()] {
-            text.push_str(part)?;
-        }
+        push_all(text, &[" ", module.path().as_str(), module.suffix()])?;
         self.push_targets(alloc, module, text)?;
         text.push_str("\n")
     }
@@ -176,12 +175,16 @@ impl Showings {
         for path in self.paths.as_slice() {
             if !self.agrees(number, path) {
                 let line = format!(in alloc; "another slot in memory of showing {number}: ")?;
-                for part in [line.as_str(), path.as_str(), "\n"] {
-                    text.push_str(part)?;
-                }
+                push_all(text, &[line.as_str(), path.as_str(), "\n"])?;
             }
         }
         Ok(())
+    }
+
+    fn keep(&mut self, alloc: Global, text: String) -> Result<(), Memory> {
+        let mut text = text;
+        self.push_all_others(alloc, &mut text)?;
+        Ok(self.texts.push(text)?)
     }
 
     // The watch in memory is asked for all that was shown so far, again: what is shown later changes none of it.
@@ -216,11 +219,9 @@ impl Watch for Showings {
             return Ok(());
         }
         let modules = self.take_all(alloc, slots, &view)?;
-        let mut text = self.text_of(alloc, slots, &view)?;
+        let text = self.text_of(alloc, slots, &view)?;
         self.memory.shown(alloc, slots, view)?;
         self.modules.push(modules)?;
-        self.push_all_others(alloc, &mut text)?;
-        self.texts.push(text)?;
-        Ok(())
+        self.keep(alloc, text)
     }
 }

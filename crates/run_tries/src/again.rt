@@ -20,14 +20,14 @@ use tree_spec::MOST_FILE_BYTES;
 
 /// How such a session ended.
 #[derive(Drop)]
-pub struct Repeated {
+pub(crate) struct Repeated {
     pub outcome: Outcome,
     pub told: Told,
 }
 
 /// How a session over a tree ends where these calls fail. Memory is wanting where it was before the first line was
 /// said.
-pub fn again_outcome(
+pub(crate) fn again_outcome(
     alloc: Global,
     tree: &Tree,
     run: &Run,
@@ -63,7 +63,11 @@ fn held<L: Ledger>(
 // The config of the folder's project.
 fn config_in<F: Folder>(alloc: Global, folder: &mut F) -> Result<Config, RowFault> {
     let path = Path::parse(alloc, "/importmap.project.json")?;
-    match folder.look(alloc, &path, MOST_FILE_BYTES) {
+    config_of(alloc, folder.look(alloc, &path, MOST_FILE_BYTES))
+}
+
+fn config_of(alloc: Global, look: Result<Look, LookFault>) -> Result<Config, RowFault> {
+    match look {
         Ok(Look::File(bytes)) => match read_project(alloc, bytes.as_slice()) {
             Ok(config) => Ok(config),
             Err(ProjectFault::Memory) => Err(RowFault::Memory),
@@ -78,7 +82,6 @@ fn none(why: &'static str) -> RowFault {
     RowFault::Malformed { why }
 }
 
-// Says what is generated, and replies to the lines of the input.
 fn opened<L: Ledger>(
     alloc: Global,
     session: Session,
@@ -86,10 +89,20 @@ fn opened<L: Ledger>(
     steps: &mut Steps<L>,
 ) -> Result<(u8, Told), RowFault> {
     let mut session = session;
+    talk(alloc, &mut session, outside, steps)
+}
+
+// Says what is generated, and replies to the lines of the input.
+fn talk<L: Ledger>(
+    alloc: Global,
+    session: &mut Session,
+    outside: &mut Outside,
+    steps: &mut Steps<L>,
+) -> Result<(u8, Told), RowFault> {
     let counts = session.counts();
     let line = done_line(alloc, counts.modules, counts.requests, counts.mappings)?;
     let mut reader = SessionInput::new(alloc)?;
-    let mut editor = Repeating::new(&mut session, &mut outside.folder, steps);
+    let mut editor = Repeating::new(session, &mut outside.folder, steps);
     let status = match outside.out.give(line.as_slice()) {
         Err(_) => WRITE_FAULT,
         Ok(()) => converse(

@@ -2,9 +2,11 @@
 
 use crate::again::{Repeated, again_outcome};
 use crate::comparing::{compare_looks, compare_shown, differences};
-use crate::expected::{Expected, expected_of};
+use crate::expected::{Ending, Expected};
 use crate::outcome::outcome_of;
 use crate::outside::Outcome;
+use crate::parts::push_all;
+use crate::repeating::Told;
 use row_files::{
     Call, Change, Cut, Differences, Fails, Reader, Report, Row, RowFault, Run, Tree, Turns,
 };
@@ -67,16 +69,20 @@ impl Tried {
         if found.is_empty() {
             return Ok(());
         }
-        let line = format!(in alloc; "{}:{}: ", self.name, trial.run.line)?;
-        self.told.push_str(line.as_str())?;
-        self.told.push_str(trial.row.title.as_str())?;
-        self.told.push_str(":")?;
-        for word in trial.run.words.as_slice() {
-            self.told.push_str(" ")?;
-            self.told.push_str(word.as_str())?;
-        }
-        for part in [trial.apart, found.as_str(), "\n"] {
-            self.told.push_str(part)?;
+        self.push_place(alloc, trial.run.line)?;
+        push_all(&mut self.told, &[trial.row.title.as_str(), ":"])?;
+        self.push_words(trial.run.words.as_slice())?;
+        push_all(&mut self.told, &[trial.apart, found.as_str(), "\n"])
+    }
+
+    fn push_place(&mut self, alloc: Global, line: u64) -> Result<(), Memory> {
+        let place = format!(in alloc; "{}:{line}: ", self.name)?;
+        self.told.push_str(place.as_str())
+    }
+
+    fn push_words(&mut self, words: &[String]) -> Result<(), Memory> {
+        for word in words {
+            push_all(&mut self.told, &[" ", word.as_str()])?;
         }
         Ok(())
     }
@@ -92,18 +98,27 @@ pub fn try_lines(
     for line in text.lines() {
         let ended = reader.take(alloc, line);
         tried.line = reader.line();
-        try_row(alloc, &ended?, tried)?;
+        try_ended(alloc, ended, tried)?;
     }
     let ended = reader.end(alloc);
     tried.line = reader.line();
-    try_row(alloc, &ended?, tried)
+    try_ended(alloc, ended, tried)
 }
 
 // Tries the runs of a row, where one ended.
-fn try_row(alloc: Global, row: &Option<Row>, tried: &mut Tried) -> Result<(), RowFault> {
-    let Some(row) = row else {
-        return Ok(());
-    };
+fn try_ended(
+    alloc: Global,
+    ended: Result<Option<Row>, RowFault>,
+    tried: &mut Tried,
+) -> Result<(), RowFault> {
+    match ended {
+        Err(fault) => Err(fault),
+        Ok(None) => Ok(()),
+        Ok(Some(row)) => try_row(alloc, &row, tried),
+    }
+}
+
+fn try_row(alloc: Global, row: &Row, tried: &mut Tried) -> Result<(), RowFault> {
     let mut left = Tree::new(alloc);
     for run in row.runs.as_slice() {
         tried.line = run.line;
@@ -124,7 +139,7 @@ fn try_run(
     tree: &Tree,
     tried: &mut Tried,
 ) -> Result<(), RowFault> {
-    let expected = expected_of(alloc, run.wanted()?, run.changes.as_slice())?;
+    let ending = Ending::of(alloc, run.wanted()?)?;
     let trial = Trial {
         row,
         run,
@@ -133,12 +148,21 @@ fn try_run(
         fails: &run.fails,
         apart: "",
     };
-    match &run.cut {
-        None => try_one(alloc, trial, &expected, tried)?,
-        Some(cut) => try_cuts(alloc, trial, cut, &expected, tried)?,
+    try_ways(alloc, trial, ending.with(run.changes.as_slice()), tried)
+}
+
+fn try_ways(
+    alloc: Global,
+    trial: Trial<'_>,
+    expected: Expected<'_>,
+    tried: &mut Tried,
+) -> Result<(), RowFault> {
+    match &trial.run.cut {
+        None => try_one(alloc, trial, expected, tried)?,
+        Some(cut) => try_cuts(alloc, trial, cut, expected, tried)?,
     }
-    for turns in run.turns.as_slice() {
-        try_turns(alloc, trial, turns, &expected, tried)?;
+    for turns in trial.run.turns.as_slice() {
+        try_turns(alloc, trial, turns, expected, tried)?;
     }
     Ok(())
 }
@@ -146,15 +170,25 @@ fn try_run(
 fn try_one(
     alloc: Global,
     trial: Trial<'_>,
-    expected: &Expected<'_>,
+    expected: Expected<'_>,
     tried: &mut Tried,
 ) -> Result<(), RowFault> {
     let outcome = outcome_of(alloc, trial.tree, trial.run, trial.input, trial.fails)?;
-    let mut found = differences(alloc, trial.tree, &outcome, expected)?;
-    if trial.apart.is_empty() {
-        compare_told(alloc, trial.run, &outcome, &mut found)?;
-    }
+    let found = found_of(alloc, trial, &outcome, expected)?;
     Ok(tried.count(alloc, trial, &found)?)
+}
+
+fn found_of(
+    alloc: Global,
+    trial: Trial<'_>,
+    outcome: &Outcome,
+    expected: Expected<'_>,
+) -> Result<Differences, RowFault> {
+    let mut found = differences(alloc, trial.tree, outcome, expected)?;
+    if trial.apart.is_empty() {
+        compare_told(alloc, trial.run, outcome, &mut found)?;
+    }
+    Ok(found)
 }
 
 // What is told of the run itself alone.
@@ -178,7 +212,7 @@ fn try_cuts(
     alloc: Global,
     trial: Trial<'_>,
     cut: &Cut,
-    expected: &Expected<'_>,
+    expected: Expected<'_>,
     tried: &mut Tried,
 ) -> Result<(), RowFault> {
     for length in cut.first..cut.last.saturating_add(1) {
@@ -195,7 +229,7 @@ fn try_cut_file(
     trial: Trial<'_>,
     path: &str,
     length: u64,
-    expected: &Expected<'_>,
+    expected: Expected<'_>,
     tried: &mut Tried,
 ) -> Result<(), RowFault> {
     let tree = trial.tree.cut(alloc, path, length)?;
@@ -212,7 +246,7 @@ fn try_cut_input(
     alloc: Global,
     trial: Trial<'_>,
     length: u64,
-    expected: &Expected<'_>,
+    expected: Expected<'_>,
     tried: &mut Tried,
 ) -> Result<(), RowFault> {
     let Some(input) = trial.input.get(..length as usize) else {
@@ -235,16 +269,29 @@ fn try_turns(
     alloc: Global,
     trial: Trial<'_>,
     turns: &Turns,
-    expected: &Expected<'_>,
+    expected: Expected<'_>,
     tried: &mut Tried,
 ) -> Result<(), RowFault> {
-    let Some(wanted) = &turns.wanted else {
-        return try_agains(alloc, trial, turns, expected, tried);
-    };
+    match &turns.wanted {
+        None => try_agains(alloc, trial, turns, expected, tried),
+        Some(wanted) => {
+            let ending = Ending::of(alloc, wanted)?;
+            try_each(alloc, trial, turns, &ending, expected, tried)
+        }
+    }
+}
+
+fn try_each(
+    alloc: Global,
+    trial: Trial<'_>,
+    turns: &Turns,
+    ending: &Ending,
+    expected: Expected<'_>,
+    tried: &mut Tried,
+) -> Result<(), RowFault> {
     for number in turns.first..turns.last.saturating_add(1) {
-        let changes = changed_before(turns.call, number, expected.changes);
-        let ended = expected_of(alloc, wanted, changes)?;
-        try_turn(alloc, trial, turns.call, number, &ended, tried)?;
+        let ended = ending.with(changed_before(turns.call, number, expected.changes));
+        try_turn(alloc, trial, turns.call, number, ended, tried)?;
     }
     let beyond = turns.last.saturating_add(1);
     if trial.run.has_turn(turns.call, beyond) {
@@ -258,7 +305,7 @@ fn try_turn(
     trial: Trial<'_>,
     call: Call,
     number: u64,
-    expected: &Expected<'_>,
+    expected: Expected<'_>,
     tried: &mut Tried,
 ) -> Result<(), RowFault> {
     let fails = trial.run.fails.and_one(alloc, call, number)?;
@@ -276,21 +323,32 @@ fn try_agains(
     alloc: Global,
     trial: Trial<'_>,
     turns: &Turns,
-    expected: &Expected<'_>,
+    expected: Expected<'_>,
     tried: &mut Tried,
 ) -> Result<(), RowFault> {
     try_again(alloc, trial, 0, expected, tried)?;
     for number in turns.first..turns.last.saturating_add(1) {
-        let fails = trial.fails.and_one(alloc, turns.call, number)?;
-        let apart = format!(in alloc; ", {} {number} failing, again", turns.call.name())?;
-        let trial = Trial {
-            fails: &fails,
-            apart: apart.as_str(),
-            ..trial
-        };
-        try_again(alloc, trial, 1, expected, tried)?;
+        try_turn_again(alloc, trial, turns.call, number, expected, tried)?;
     }
     Ok(())
+}
+
+fn try_turn_again(
+    alloc: Global,
+    trial: Trial<'_>,
+    call: Call,
+    number: u64,
+    expected: Expected<'_>,
+    tried: &mut Tried,
+) -> Result<(), RowFault> {
+    let fails = trial.fails.and_one(alloc, call, number)?;
+    let apart = format!(in alloc; ", {} {number} failing, again", call.name())?;
+    let trial = Trial {
+        fails: &fails,
+        apart: apart.as_str(),
+        ..trial
+    };
+    try_again(alloc, trial, 1, expected, tried)
 }
 
 // So many edits have to be made again.
@@ -298,11 +356,32 @@ fn try_again(
     alloc: Global,
     trial: Trial<'_>,
     repeats: u64,
-    expected: &Expected<'_>,
+    expected: Expected<'_>,
     tried: &mut Tried,
 ) -> Result<(), RowFault> {
-    let Repeated { outcome, told } = again_outcome(alloc, trial.tree, trial.run, trial.fails)?;
-    let mut found = differences(alloc, trial.tree, &outcome, expected)?;
+    let repeated = again_outcome(alloc, trial.tree, trial.run, trial.fails)?;
+    let found = found_again(alloc, trial, &repeated, repeats, expected)?;
+    Ok(tried.count(alloc, trial, &found)?)
+}
+
+fn found_again(
+    alloc: Global,
+    trial: Trial<'_>,
+    repeated: &Repeated,
+    repeats: u64,
+    expected: Expected<'_>,
+) -> Result<Differences, RowFault> {
+    let mut found = differences(alloc, trial.tree, &repeated.outcome, expected)?;
+    compare_again(alloc, repeated.told, repeats, &mut found)?;
+    Ok(found)
+}
+
+fn compare_again(
+    alloc: Global,
+    told: Told,
+    repeats: u64,
+    found: &mut Differences,
+) -> Result<(), Memory> {
     if told.repeats != repeats {
         let number = format!(in alloc; " edits are made again, and not {repeats}")?;
         let count = format!(in alloc; "{}", told.repeats)?;
@@ -311,7 +390,7 @@ fn try_again(
     if !told.stays {
         found.push("the session", " is changed by an edit that isn't made")?;
     }
-    Ok(tried.count(alloc, trial, &found)?)
+    Ok(())
 }
 
 // Which of the files are written before a call fails: a command writes when all its looks and takes are done, one

@@ -9,7 +9,7 @@ use tree_model::{MemFolder, MemSink};
 
 /// What is outside of a run.
 #[derive(Drop)]
-pub struct Outside {
+pub(crate) struct Outside {
     pub folder: Watched<MemFolder>,
     pub input: Pieces,
     pub out: MemSink,
@@ -17,12 +17,23 @@ pub struct Outside {
 }
 
 /// How a run ended, with what it left.
-#[derive(Drop)]
-pub struct Outcome {
+pub(crate) struct Outcome {
     pub status: u8,
     pub folder: Watched<MemFolder>,
     pub out: MemSink,
     pub shown: Showings,
+}
+
+// Written out once, since many functions end with an outcome in hand at many places.
+impl Drop for Outcome {
+    fn drop(self) {
+        let Outcome {
+            status: _,
+            folder: _,
+            out: _,
+            shown: _,
+        } = self;
+    }
 }
 
 impl Outside {

@@ -13,7 +13,7 @@ use tree_model::Folder;
 
 /// What is told of the edits of a session.
 #[derive(Clone, Copy)]
-pub struct Told {
+pub(crate) struct Told {
     /// How many were made again.
     pub repeats: u64,
     /// Whether the map and its counts were as before behind each that wasn't made, and nothing was pending.
@@ -23,7 +23,7 @@ pub struct Told {
 /// A session with the folder at which its edits look. Where a look fails or memory is wanting, the edit is made again,
 /// once.
 #[derive(Drop)]
-pub struct Repeating<'a, 'b, 'c, F: Folder, L: Ledger> {
+pub(crate) struct Repeating<'a, 'b, 'c, F: Folder, L: Ledger> {
     session: &'a mut Session,
     folder: &'b mut F,
     steps: &'c mut Steps<L>,
