@@ -52,11 +52,15 @@ pub(crate) fn follow<A: Answerer, N: Namer>(
             tables.put(alloc, namer, config, referrer, specifier, asked, target)
         }
         NodeAnswer::Refused { cause } => {
+            drop(asked);
             Err(refusal(alloc, referrer, specifier, AskCause::from(cause))?)
         }
-        NodeAnswer::TooDeep => Err(TraceFault::Limit {
-            which: LimitName::Depth,
-        }),
+        NodeAnswer::TooDeep => {
+            drop(asked);
+            Err(TraceFault::Limit {
+                which: LimitName::Depth,
+            })
+        }
     }
 }
 

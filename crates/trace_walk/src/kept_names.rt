@@ -20,11 +20,20 @@ use trace_spec::TraceFault;
 use web_url::Base;
 
 /// The name of a module at a base.
-#[derive(Drop)]
 struct KeptName {
     base: Base,
     target: Module,
     name: Name,
+}
+
+impl Drop for KeptName {
+    fn drop(self) {
+        let KeptName {
+            base: _,
+            target: _,
+            name: _,
+        } = self;
+    }
 }
 
 impl Model for KeptName {
@@ -38,6 +47,30 @@ impl Model for KeptName {
 }
 
 impl KeptName {
+    // The name of a module, anew.
+    fn of(alloc: Global, config: &Config, target: &Module) -> Result<KeptName, TraceFault>
+        ensures base { IfOk result (λ kept. kept.base ≡ config.now.base) }
+        ensures target { IfOk result (λ kept. kept.target ≡ target.now) }
+        ensures unserved { IfErr result (λ fault. fault ≢ TraceFault.Memory
+            → IsUnserved config.now target.now.path target.now.suffix fault) }
+    {
+        let own = target.copy(alloc)?;
+        let base = config.base().copy(alloc)?;
+        let name = name_at(alloc, config, target)?;
+        Ok(KeptName {
+            base,
+            target: own,
+            name,
+        })
+    }
+
+    // A copy of the name.
+    fn name(&self, alloc: Global) -> Result<Name, Memory>
+        ensures { IfOk result (IsServedAs self.now.base self.now.target) }
+    {
+        self.name.copy(alloc)
+    }
+
     // The name, where it is this module's at this base.
     fn name_of(&self, alloc: Global, base: &Base, target: &Module) -> Result<Option<Name>, Memory>
         ensures { IfOk result (λ found. IfSome found (IsServedAs base.now target.now)) }
@@ -51,11 +84,20 @@ impl KeptName {
 }
 
 /// What a specifier asks for in a referrer of this name.
-#[derive(Drop)]
 struct KeptAsk {
     referrer: Text,
     specifier: Text,
     asked: Text,
+}
+
+impl Drop for KeptAsk {
+    fn drop(self) {
+        let KeptAsk {
+            referrer: _,
+            specifier: _,
+            asked: _,
+        } = self;
+    }
 }
 
 impl Model for KeptAsk {
@@ -152,12 +194,8 @@ impl KeptNames {
         ensures unserved { IfErr result (λ fault. fault ≢ TraceFault.Memory
             → IsUnserved config.now target.now.path target.now.suffix fault) }
     {
-        let name = name_at(alloc, config, target)?;
-        let anew = KeptName {
-            base: config.base().copy(alloc)?,
-            target: target.copy(alloc)?,
-            name: name.copy(alloc)?,
-        };
+        let anew = KeptName::of(alloc, config, target)?;
+        let name = anew.name(alloc)?;
         self.put_name(alloc, target, anew)?;
         Ok(name)
     }

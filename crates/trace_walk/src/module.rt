@@ -8,10 +8,16 @@ use tree_model::Path;
 use web_url::Suffix;
 
 /// A module: a path with a suffix. Two suffixes of one path are two modules.
-#[derive(Drop)]
 pub struct Module {
     path: Path,
     suffix: Suffix,
+}
+
+// Written out, as a function that drops a module at several exits is then proved sooner.
+impl Drop for Module {
+    fn drop(self) {
+        let Module { path: _, suffix: _ } = self;
+    }
 }
 
 impl Model for Module {

@@ -241,6 +241,7 @@ fn name_of<N: Namer>(
 {
     let name = namer.name(alloc, config, target)?;
     if is_folder_url(&name.url) {
+        drop(name);
         return Err(refusal(alloc, referrer, specifier, AskCause::TrailingSlash)?);
     }
     Ok(name)

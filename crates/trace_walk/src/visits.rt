@@ -83,8 +83,10 @@ fn page_referrer<N: Namer>(
 {
     let page = Module::new(config.page().copy(alloc)?, Suffix::none(alloc));
     let name = namer.name(alloc, config, &page)?;
-    let referrer = referrer_of(alloc, &page, &name)?;
-    Ok(referrer)
+    let referrer = referrer_of(alloc, &page, &name);
+    drop(name);
+    drop(page);
+    Ok(referrer?)
 }
 
 // Follows the requests of a referrer in order.
