@@ -24,7 +24,6 @@ use web_url::{Base, WebFault, web_of};
 
 /// What a trace holds: its modules, in a graph and in trace order, with the texts of their names at its base; the needs;
 /// how many requests were followed; and where was looked.
-#[derive(Drop)]
 pub struct Trace {
     base: Base,
     graph: TraceGraph,
@@ -33,6 +32,21 @@ pub struct Trace {
     spellings: Vec<Spelling>,
     requests: usize,
     trail: Trail,
+}
+
+// Written out, since a function that drops a trace is then proved far sooner.
+impl Drop for Trace {
+    fn drop(self) {
+        let Trace {
+            base: _,
+            graph: _,
+            names: _,
+            needs: _,
+            spellings: _,
+            requests: _,
+            trail: _,
+        } = self;
+    }
 }
 
 impl Model for Trace {
