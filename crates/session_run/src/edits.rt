@@ -33,7 +33,11 @@ pub(crate) fn make_edit<F: Folder, W: Watch, L: Ledger>(
 {
     match session.prepare(alloc, edit, folder, steps) {
         Ok(()) => accept(alloc, session, watch),
-        Err(stop) => stopped(alloc, &stop),
+        Err(stop) => {
+            let line = stopped(alloc, &stop);
+            drop(stop);
+            line
+        }
     }
 }
 

@@ -43,7 +43,11 @@ pub fn session<F: Folder, I: Source, O: Sink, W: Watch, L: Ledger>(
 {
     match Session::open(alloc, config, folder, steps) {
         Ok(session) => opened(alloc, session, folder, input, out, watch, steps),
-        Err(stop) => refuse(alloc, &stop, out),
+        Err(stop) => {
+            let status = refuse(alloc, &stop, out);
+            drop(stop);
+            status
+        }
     }
 }
 
@@ -77,7 +81,10 @@ fn opened<F: Folder, I: Source, O: Sink, W: Watch, L: Ledger>(
     ensures later { (O.state out.old).faults ≤ (O.state out.new).faults }
 {
     match watch.shown(alloc, session.slots(), session.view()) {
-        Err(_) => tell(out, memory_line(), MEMORY),
+        Err(_) => {
+            drop(session);
+            tell(out, memory_line(), MEMORY)
+        }
         Ok(()) => shown(alloc, session, folder, input, out, watch, steps),
     }
 }
@@ -99,10 +106,20 @@ fn shown<F: Folder, I: Source, O: Sink, W: Watch, L: Ledger>(
     let mut session = session;
     let counts = session.counts();
     match done_line(alloc, counts.modules, counts.requests, counts.mappings) {
-        Err(_) => tell(out, memory_line(), MEMORY),
+        Err(_) => {
+            drop(session);
+            tell(out, memory_line(), MEMORY)
+        }
         Ok(line) => match out.give(line.as_slice()) {
-            Err(_) => WRITE_FAULT,
-            Ok(()) => talk(alloc, &mut session, folder, input, out, watch, steps),
+            Err(_) => {
+                drop(session);
+                WRITE_FAULT
+            }
+            Ok(()) => {
+                let status = talk(alloc, &mut session, folder, input, out, watch, steps);
+                drop(session);
+                status
+            }
         },
     }
 }

@@ -18,9 +18,9 @@ returns-in-Ok-clause-asks g c references =
 pub returns-in-Err-clause-edits : goal.returns-in-Err-clause-edits
 returns-in-Err-clause-edits g c view is =
     stopped_seen (g.F.Folder.state c.args.folder.now) (g.F.Folder.state c.prepare.new.folder) c.args.session.now c.prepare.new.self c.args.edit.now view (g.W.Watch.seen c.args.watch.now) c.args.steps.now c.prepare.new.steps (few_steps (g.F.Folder.state c.args.folder.now) (g.F.Folder.state c.prepare.new.folder) c.args.session.now c.prepare.new.self c.args.edit.now (Err c.in-Err.stop) c.args.steps.now c.prepare.new.steps c.in-Err.ensures.prepares c.in-Err.ensures.steps) c.in-Err.ensures.fresh is
-    c.in-Err.stop c.stopped.result c.in-Err.ensures.prepares c.stopped.ensures
+    c.in-Err.stop c.stopped-line.result c.in-Err.ensures.prepares c.stopped-line.ensures
 
 pub returns-in-Err-clause-asks : goal.returns-in-Err-clause-asks
 returns-in-Err-clause-asks g c references =
     stopped_asks references (g.F.Folder.state c.args.folder.now) (g.F.Folder.state c.prepare.new.folder) c.args.session.now c.prepare.new.self
-    c.args.edit.now c.in-Err.stop c.stopped.result c.in-Err.ensures.prepares c.stopped.ensures
+    c.args.edit.now c.in-Err.stop c.stopped-line.result c.in-Err.ensures.prepares c.stopped-line.ensures

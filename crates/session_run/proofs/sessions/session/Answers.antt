@@ -16,7 +16,7 @@ returns-in-Ok-clause-asked g c =
 pub returns-in-Err-clause-ends : goal.returns-in-Err-clause-ends
 returns-in-Err-clause-ends g c is_config =
     refused_ends c.args.config (g.F.Folder.state c.args.folder.now) (g.F.Folder.state c.open.new.folder) (g.I.Source.state c.args.input.now) (g.O.Sink.state c.args.out.now)
-    (g.O.Sink.state c.refuse.new.out) c.refuse.result c.refuse.ensures.later is_config c.args.steps.now c.open.new.steps c.in-Err.ensures.steps.bounded c.in-Err.ensures.by_trace (g.W.Watch.seen c.args.watch.now) c.in-Err.stop c.in-Err.ensures.opens c.refuse.ensures.tells
+    (g.O.Sink.state c.refuse-status.new.out) c.refuse-status.result c.refuse-status.ensures.later is_config c.args.steps.now c.open.new.steps c.in-Err.ensures.steps.bounded c.in-Err.ensures.by_trace (g.W.Watch.seen c.args.watch.now) c.in-Err.stop c.in-Err.ensures.opens c.refuse-status.ensures.tells
 
 pub returns-in-Err-clause-asked : goal.returns-in-Err-clause-asked
 returns-in-Err-clause-asked g c = c.in-Err.ensures.opens.asked

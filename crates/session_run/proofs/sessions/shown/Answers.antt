@@ -20,6 +20,6 @@ pub returns-clause-ends : goal.returns-clause-ends
 returns-clause-ends g c =
     opened_replies c.args.session (g.F.Folder.state c.args.folder.now) (g.I.Source.state c.args.input.now) (g.O.Sink.state c.args.out.now) (g.W.Watch.seen c.args.watch.now)
     c.as_slice.result.now (c.as_slice.ensures.value ∙ c.in-Ok.ensures ∙ ap accepted_line c.counts-counts.ensures) c.args.steps.now
-    (g.O.Sink.state c.give.new.self) (g.O.Sink.state c.talk.new.out) (g.F.Folder.state c.talk.new.folder) c.talk.new.session
-    (g.I.Source.state c.talk.new.input) (g.W.Watch.seen c.talk.new.watch) c.talk.result c.talk.new.steps c.in-Ok-give.ensures.given
-    c.talk.ensures.talks (c.talk.ensures.asks []).asks
+    (g.O.Sink.state c.give.new.self) (g.O.Sink.state c.talk-status.new.out) (g.F.Folder.state c.talk-status.new.folder) c.talk-status.new.session
+    (g.I.Source.state c.talk-status.new.input) (g.W.Watch.seen c.talk-status.new.watch) c.talk-status.result c.talk-status.new.steps c.in-Ok-give.ensures.given
+    c.talk-status.ensures.talks (c.talk-status.ensures.asks []).asks
