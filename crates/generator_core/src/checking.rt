@@ -1,9 +1,10 @@
 //! What a command says of the map that is there, or why it says nothing.
 
-ghost use Rattle.std.specs.Prelude.{◌≡◌, ◌≤◌, ◌+◌, ◌++◌, [], ◌∷◌, length, map, IfOk, OnOk, IfSome};
+ghost use Rattle.std.specs.Prelude.{◌≡◌, ◌≤◌, ◌+◌, ◌++◌, [], ◌∷◌, length, map, IfOk, OnOk, IfSome, Some};
 ghost use Rattle.std.specs.List.{concat};
 ghost use Rattle.tree_spec.specs.declared.LimitName.TheVariants.{Modules, Requests};
 ghost use Rattle.tree_spec.specs.Limits.{limit_number};
+ghost use Rattle.trace_spec.specs.Modules as modules;
 ghost use Rattle.trace_spec.specs.Modules.{web_name};
 ghost use Rattle.trace_spec.specs.Walking.{the_page};
 ghost use Rattle.map_check.specs.Shown.{shown};
@@ -60,7 +61,11 @@ pub fn checked<F: Folder, L: Ledger>(
         Err(stop) => Err(stop),
         Ok(text) => match map_of(alloc, config, text.as_slice()) {
             Err(stop) => Err(stop),
-            Ok(parsed) => checked_by(alloc, folder, config, &parsed, strictly, steps),
+            Ok(parsed) => {
+                let said = checked_by(alloc, folder, config, &parsed, strictly, steps);
+                drop(parsed);
+                said
+            }
         },
     }
 }
@@ -104,15 +109,20 @@ fn map_of(alloc: Global, config: &Config, text: &[u8]) -> Result<ParsedMap, Stop
     match map_base(alloc, config) {
         Err(_) => Err(Stop::Memory),
         Ok(None) => Err(without_base(alloc, config)),
-        Ok(Some(base)) => match parse_map(alloc, text, &base) {
-            Ok(parsed) => Ok(parsed),
-            Err(MapFault::NotJson { at }) => Err(without_map(MapFileFault::NotJson { at })),
-            Err(MapFault::TooDeep { at: _ }) => Err(without_map(MapFileFault::TooDeep)),
-            Err(MapFault::NotObject { which }) => {
-                Err(without_map(MapFileFault::NotObject { which }))
-            }
-            Err(MapFault::Memory) => Err(Stop::Memory),
-        },
+        Ok(Some(base)) => map_at(alloc, text, &base),
+    }
+}
+
+// The same, where this is the page's URL.
+fn map_at(alloc: Global, text: &[u8], base: &WebUrl) -> Result<ParsedMap, Stop>
+    ensures { (config : modules.Config) → web_name config the_page ≡ Some base.now → FindsMap config text.now result }
+{
+    match parse_map(alloc, text, base) {
+        Ok(parsed) => Ok(parsed),
+        Err(MapFault::NotJson { at }) => Err(without_map(MapFileFault::NotJson { at })),
+        Err(MapFault::TooDeep { at: _ }) => Err(without_map(MapFileFault::TooDeep)),
+        Err(MapFault::NotObject { which }) => Err(without_map(MapFileFault::NotObject { which })),
+        Err(MapFault::Memory) => Err(Stop::Memory),
     }
 }
 
@@ -162,7 +172,11 @@ fn checked_by<F: Folder, L: Ledger>(
 {
     match traced(alloc, folder, config, steps) {
         Err(stop) => Err(stop),
-        Ok(trace) => report_of(alloc, &trace, parsed, strictly, steps),
+        Ok(trace) => {
+            let said = report_of(alloc, &trace, parsed, strictly, steps);
+            drop(trace);
+            said
+        }
     }
 }
 

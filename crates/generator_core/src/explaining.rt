@@ -38,8 +38,14 @@ pub fn explained<F: Folder, L: Ledger>(
     match traced(alloc, folder, config, steps) {
         Err(stop) => Err(stop),
         Ok(trace) => match reported(alloc, &trace, config, path) {
-            Err(_) => Err(Stop::Memory),
-            Ok(report) => Ok(report),
+            Err(_) => {
+                drop(trace);
+                Err(Stop::Memory)
+            }
+            Ok(report) => {
+                drop(trace);
+                Ok(report)
+            }
         },
     }
 }

@@ -32,8 +32,14 @@ pub fn listed<F: Folder, L: Ledger>(
     match traced(alloc, folder, config, steps) {
         Err(stop) => Err(stop),
         Ok(trace) => match module_text(alloc, &trace) {
-            Err(_) => Err(Stop::Memory),
-            Ok(text) => Ok(Report { status: DONE, text }),
+            Err(_) => {
+                drop(trace);
+                Err(Stop::Memory)
+            }
+            Ok(text) => {
+                drop(trace);
+                Ok(Report { status: DONE, text })
+            }
         },
     }
 }

@@ -27,7 +27,10 @@ pub fn configured<F: Folder>(
         → FindsConfig words (command_ordered order.entry) (F.state folder.old) result (F.state folder.new) }
 {
     match project_in(alloc, folder) {
-        Err(stop) => Err(stop),
+        Err(stop) => {
+            drop(order);
+            Err(stop)
+        }
         Ok(found) => match config_of(alloc, order, found) {
             Ok(config) => Ok(config),
             Err(NoConfig::Refused { fault }) => Err(refused(fault)),

@@ -80,7 +80,7 @@ fn misworded<O: Sink>(alloc: Global, fault: WordsFault, out: &mut O) -> u8
     match fault {
         WordsFault::Told(text) => tell(out, text.as_bytes(), BAD_WORDS),
         WordsFault::NotPlain => tell(out, not_plain_line(), BAD_WORDS),
-        WordsFault::Refused { fault } => refuse(alloc, &Refusal::Config { fault }, out),
+        WordsFault::Refused { fault } => refuse(alloc, Refusal::Config { fault }, out),
         WordsFault::Memory => tell(out, memory_line(), MEMORY),
     }
 }
@@ -120,7 +120,11 @@ fn explain<F: Folder, O: Sink, L: Ledger>(
         → FitsWords words (F.state folder.old).holds steps.old steps.new }
 {
     match configured(alloc, folder, Order::Refresh) {
-        Ok(config) => tell_why(alloc, folder, &config, path, out, steps),
+        Ok(config) => {
+            let status = tell_why(alloc, folder, &config, path, out, steps);
+            drop(config);
+            status
+        }
         Err(stop) => close(alloc, stop, out),
     }
 }
@@ -143,7 +147,11 @@ fn vendor<F: Folder, O: Sink, L: Ledger>(
         → FitsWords words (F.state folder.old).holds steps.old steps.new }
 {
     match configured(alloc, folder, Order::Refresh) {
-        Ok(config) => tell_copies(alloc, folder, &config, to, out, steps),
+        Ok(config) => {
+            let status = tell_copies(alloc, folder, &config, to, out, steps);
+            drop(config);
+            status
+        }
         Err(stop) => close(alloc, stop, out),
     }
 }
@@ -167,7 +175,11 @@ fn ordered<F: Folder, O: Sink, L: Ledger>(
 {
     let command = order.command();
     match configured(alloc, folder, order) {
-        Ok(config) => commanded(alloc, folder, command, &config, out, steps),
+        Ok(config) => {
+            let status = commanded(alloc, folder, command, &config, out, steps);
+            drop(config);
+            status
+        }
         Err(stop) => close(alloc, stop, out),
     }
 }
@@ -404,13 +416,23 @@ fn close<O: Sink>(alloc: Global, stop: Stop, out: &mut O) -> u8
     ensures later { (O.state out.old).faults ≤ (O.state out.new).faults }
 {
     match stop {
-        Stop::Refused { why } => refuse(alloc, &why, out),
+        Stop::Refused { why } => refuse(alloc, why, out),
         Stop::ReadFault => tell(out, read_fault_line(), READ_FAULT),
         Stop::Memory => tell(out, memory_line(), MEMORY),
     }
 }
 
-fn refuse<O: Sink>(alloc: Global, refusal: &Refusal, out: &mut O) -> u8
+// Says why nothing is written. A refusal has many parts: dropped by a call, it is proved far sooner.
+fn refuse<O: Sink>(alloc: Global, refusal: Refusal, out: &mut O) -> u8
+    ensures tells { TellsRefusal refusal (O.state out.old) (O.state out.new) result }
+    ensures later { (O.state out.old).faults ≤ (O.state out.new).faults }
+{
+    let status = tell_refusal(alloc, &refusal, out);
+    drop(refusal);
+    status
+}
+
+fn tell_refusal<O: Sink>(alloc: Global, refusal: &Refusal, out: &mut O) -> u8
     ensures tells { TellsRefusal refusal.now (O.state out.old) (O.state out.new) result }
     ensures later { (O.state out.old).faults ≤ (O.state out.new).faults }
 {

@@ -41,10 +41,19 @@ pub fn prepare_copies<F: Folder, L: Ledger>(
     match generate_traced(alloc, folder, &mut known, config, steps) {
         Err(stop) => Err(stop),
         Ok((_generated, trace)) => match look_free(alloc, folder, to) {
-            Err(stop) => Err(stop),
+            Err(stop) => {
+                drop(trace);
+                Err(stop)
+            }
             Ok(()) => match plan(alloc, trace.footprint(), &known, to) {
-                Err(fault) => Err(stop_of(fault)),
-                Ok(plan) => Ok(Copies { known, plan }),
+                Err(fault) => {
+                    drop(trace);
+                    Err(stop_of(fault))
+                }
+                Ok(plan) => {
+                    drop(trace);
+                    Ok(Copies { known, plan })
+                }
             },
         },
     }

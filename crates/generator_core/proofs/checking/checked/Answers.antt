@@ -21,12 +21,12 @@ pub returns-clause-checks : goal.returns-clause-checks
 returns-clause-checks g c = λ command asks.
     let before = g.F.Folder.state c.args.folder.now in
     let middle = g.F.Folder.state c.map_text.new.folder in
-    let after = g.F.Folder.state c.checked_by.new.folder in
+    let after = g.F.Folder.state c.checked_by-said.new.folder in
     let found = subst (λ r. FindsMapText before r middle) c.in-Ok.is c.map_text.ensures in
     let reads = (subst (λ r. FindsMap c.args.config.now c.in-Ok.text r) c.in-Ok-map_of.is (subst (λ t. FindsMap c.args.config.now t c.map_of.result) c.as_slice.ensures c.map_of.ensures)).reads in
     checks_behind command c.args.config.now before middle after (asks_checking command c.args.strictly asks) c.in-Ok.text
-    c.in-Ok-map_of.parsed c.checked_by.result reads found
-    (c.checked_by.ensures.checks (text_still c.args.config.now before middle c.in-Ok.text c.in-Ok-map_of.parsed found
+    c.in-Ok-map_of.parsed c.checked_by-said.result reads found
+    (c.checked_by-said.ensures.checks (text_still c.args.config.now before middle c.in-Ok.text c.in-Ok-map_of.parsed found
     reads) command asks)
 
 pub returns-in-Err-clause-by_trace : goal.returns-in-Err-clause-by_trace
@@ -41,6 +41,6 @@ returns-clause-by_trace g c = λ command asking.
     let middle = g.F.Folder.state c.map_text.new.folder in
     let found = subst (λ r. FindsMapText before r middle) c.in-Ok.is c.map_text.ensures in
     let reads = (subst (λ r. FindsMap c.args.config.now c.in-Ok.text r) c.in-Ok-map_of.is (subst (λ t. FindsMap c.args.config.now t c.map_of.result) c.as_slice.ensures c.map_of.ensures)).reads in
-    fits_earlier c.args.config.now before middle c.args.steps.now c.checked_by.new.steps command command refl
+    fits_earlier c.args.config.now before middle c.args.steps.now c.checked_by-said.new.steps command command refl
     found.found.looks.tree
-    (c.checked_by.ensures.by_trace (text_still c.args.config.now before middle c.in-Ok.text c.in-Ok-map_of.parsed found reads) command asking)
+    (c.checked_by-said.ensures.by_trace (text_still c.args.config.now before middle c.in-Ok.text c.in-Ok-map_of.parsed found reads) command asking)

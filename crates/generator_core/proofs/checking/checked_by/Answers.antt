@@ -16,7 +16,7 @@ pub returns-in-Ok-clause-checks : goal.returns-in-Ok-clause-checks
 returns-in-Ok-clause-checks g c = λ holds command asks.
     let before = g.F.Folder.state c.args.folder.now in
     let after = g.F.Folder.state c.traced.new.folder in
-    report_told c.args.config.now before after c.args.parsed.now holds command (asks_checking command c.args.strictly asks) c.in-Ok.trace.gathered (subst (λ (r : Result Traced Stop). Tracing c.args.config.now before (gathered_of r) after) c.in-Ok.is c.traced.ensures.traces) c.report_of.result (c.report_of.ensures.reports command asks)
+    report_told c.args.config.now before after c.args.parsed.now holds command (asks_checking command c.args.strictly asks) c.in-Ok.trace.gathered (subst (λ (r : Result Traced Stop). Tracing c.args.config.now before (gathered_of r) after) c.in-Ok.is c.traced.ensures.traces) c.report_of-said.result (c.report_of-said.ensures.reports command asks)
 
 pub returns-in-Err-clause-by_trace : goal.returns-in-Err-clause-by_trace
 returns-in-Err-clause-by_trace g c = λ holds command asking.
@@ -28,6 +28,6 @@ pub returns-in-Ok-clause-by_trace : goal.returns-in-Ok-clause-by_trace
 returns-in-Ok-clause-by_trace g c = λ holds command asking.
     let before = g.F.Folder.state c.args.folder.now in
     let after = g.F.Folder.state c.traced.new.folder in
-    checked_fits command c.args.strictly asking c.args.config.now before after c.args.parsed.now holds c.args.steps.now c.traced.new.steps c.report_of.new.steps c.in-Ok.trace.gathered
+    checked_fits command c.args.strictly asking c.args.config.now before after c.args.parsed.now holds c.args.steps.now c.traced.new.steps c.report_of-said.new.steps c.in-Ok.trace.gathered
     (subst (λ (r : Result Traced Stop). Tracing c.args.config.now before (gathered_of r) after) c.in-Ok.is c.traced.ensures.traces)
-    c.traced.ensures.to_end c.report_of.ensures.counted
+    c.traced.ensures.to_end c.report_of-said.ensures.counted

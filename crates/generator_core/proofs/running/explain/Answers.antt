@@ -19,23 +19,23 @@ returns-in-Ok-clause-end g c =
     let at =
     explains_project words c.args.path.now is before middle c.in-Ok.config
     (subst (λ r. FindsConfig refresh_words Refresh before r middle) c.in-Ok.is (c.configured.ensures refresh_words refreshes)) in
-    ends_from words before middle (g.F.Folder.state c.tell_why.new.folder) _ _ _ at.found.looks
-    (c.tell_why.ensures.end words is.asks (config_still words Why c.in-Ok.config before middle at.found.looks.tree at.found.is))
+    ends_from words before middle (g.F.Folder.state c.tell_why-status.new.folder) _ _ _ at.found.looks
+    (c.tell_why-status.ensures.end words is.asks (config_still words Why c.in-Ok.config before middle at.found.looks.tree at.found.is))
 
 pub returns-in-Ok-clause-asked : goal.returns-in-Ok-clause-asked
 returns-in-Ok-clause-asked g c =
     let before = g.F.Folder.state c.args.folder.now in
     let middle = g.F.Folder.state c.configured.new.folder in
-    let after = g.F.Folder.state c.tell_why.new.folder in
+    let after = g.F.Folder.state c.tell_why-status.new.folder in
     for_all_words (λ words old. AsksInOrder words before old after) before.asked
     (λ words is.
     let at =
     explains_project words c.args.path.now is before middle c.in-Ok.config
     (subst (λ r. FindsConfig refresh_words Refresh before r middle) c.in-Ok.is (c.configured.ensures refresh_words refreshes)) in
-    config_asks words Why c.in-Ok.config before middle after before.asked at.found.is at.found.looks.tree at.asked c.tell_why.ensures.asked)
+    config_asks words Why c.in-Ok.config before middle after before.asked at.found.is at.found.looks.tree at.asked c.tell_why-status.ensures.asked)
 
 pub returns-in-Ok-clause-steps : goal.returns-in-Ok-clause-steps
-returns-in-Ok-clause-steps g c = c.tell_why.ensures.spends
+returns-in-Ok-clause-steps g c = c.tell_why-status.ensures.spends
 
 pub returns-in-Err-clause-end : goal.returns-in-Err-clause-end
 returns-in-Err-clause-end g c =
@@ -66,7 +66,7 @@ returns-in-Ok-clause-by_trace g c =
     explains_project words c.args.path.now is before middle c.in-Ok.config
     (subst (λ r. FindsConfig refresh_words Refresh before r middle) c.in-Ok.is (c.configured.ensures refresh_words refreshes)) in
     order_fits words c.in-Ok.config before _ _ Why at.found.is
-    (fits_earlier c.in-Ok.config before middle _ _ Why Why refl at.found.looks.tree c.tell_why.ensures.by_trace)
+    (fits_earlier c.in-Ok.config before middle _ _ Why Why refl at.found.looks.tree c.tell_why-status.ensures.by_trace)
 
 pub returns-in-Err-clause-by_trace : goal.returns-in-Err-clause-by_trace
 returns-in-Err-clause-by_trace g c = λ words is. unspent_words words (g.F.Folder.state c.args.folder.now).holds _

@@ -11,8 +11,8 @@ use Rattle.generator_core.proofs.Runs.{config_still, for_all_words, project_asks
 use Rattle.generator_core.proofs.StepsByTrace.{fits_earlier, order_fits, unspent_words}
 use Rattle.generator_core.proofs.running.vendor.Goals as goal
 
-pub tell_copies-requires : goal.tell_copies-requires
-tell_copies-requires g c = c.requires
+pub tell_copies-status-requires : goal.tell_copies-status-requires
+tell_copies-status-requires g c = c.requires
 
 pub returns-in-Ok-clause-end : goal.returns-in-Ok-clause-end
 returns-in-Ok-clause-end g c =
@@ -22,23 +22,23 @@ returns-in-Ok-clause-end g c =
     let at =
     vendors_project words c.args.to.now is before middle c.in-Ok.config
     (subst (λ r. FindsConfig refresh_words Refresh before r middle) c.in-Ok.is (c.configured.ensures refresh_words refreshes)) in
-    ends_from words before middle (g.F.Folder.state c.tell_copies.new.folder) _ _ _ at.found.looks
-    (c.tell_copies.ensures.end words is.asks (config_still words Vendor c.in-Ok.config before middle at.found.looks.tree at.found.is))
+    ends_from words before middle (g.F.Folder.state c.tell_copies-status.new.folder) _ _ _ at.found.looks
+    (c.tell_copies-status.ensures.end words is.asks (config_still words Vendor c.in-Ok.config before middle at.found.looks.tree at.found.is))
 
 pub returns-in-Ok-clause-asked : goal.returns-in-Ok-clause-asked
 returns-in-Ok-clause-asked g c =
     let before = g.F.Folder.state c.args.folder.now in
     let middle = g.F.Folder.state c.configured.new.folder in
-    let after = g.F.Folder.state c.tell_copies.new.folder in
+    let after = g.F.Folder.state c.tell_copies-status.new.folder in
     for_all_words (λ words old. AsksInOrder words before old after) before.asked
     (λ words is.
     let at =
     vendors_project words c.args.to.now is before middle c.in-Ok.config
     (subst (λ r. FindsConfig refresh_words Refresh before r middle) c.in-Ok.is (c.configured.ensures refresh_words refreshes)) in
-    copies_ask words c.args.to.now c.in-Ok.config before middle after before.asked is.asks at.found.is at.found.looks.tree at.asked c.tell_copies.ensures.asked)
+    copies_ask words c.args.to.now c.in-Ok.config before middle after before.asked is.asks at.found.is at.found.looks.tree at.asked c.tell_copies-status.ensures.asked)
 
 pub returns-in-Ok-clause-steps : goal.returns-in-Ok-clause-steps
-returns-in-Ok-clause-steps g c = c.tell_copies.ensures.spends
+returns-in-Ok-clause-steps g c = c.tell_copies-status.ensures.spends
 
 pub returns-in-Err-clause-end : goal.returns-in-Err-clause-end
 returns-in-Err-clause-end g c =
@@ -69,7 +69,7 @@ returns-in-Ok-clause-by_trace g c =
     vendors_project words c.args.to.now is before middle c.in-Ok.config
     (subst (λ r. FindsConfig refresh_words Refresh before r middle) c.in-Ok.is (c.configured.ensures refresh_words refreshes)) in
     order_fits words c.in-Ok.config before _ _ Vendor at.found.is
-    (fits_earlier c.in-Ok.config before middle _ _ Vendor Vendor refl at.found.looks.tree c.tell_copies.ensures.by_trace)
+    (fits_earlier c.in-Ok.config before middle _ _ Vendor Vendor refl at.found.looks.tree c.tell_copies-status.ensures.by_trace)
 
 pub returns-in-Err-clause-by_trace : goal.returns-in-Err-clause-by_trace
 returns-in-Err-clause-by_trace g c = λ words is. unspent_words words (g.F.Folder.state c.args.folder.now).holds _
