@@ -54,8 +54,11 @@ fn compare_said(
     found: &mut Differences,
 ) -> Result<(), Memory> {
     match expected.said {
-        Some(said) => found.compare(alloc, "the output", said, outcome.out.got()),
-        None if outcome.out.got().is_empty() => found.push("the output", " must not be empty"),
+        Some(said) => found.compare(alloc, "the output", said, outcome.outside.out.got()),
+        None if outcome.outside.out.got().is_empty() => found.push(
+            "the output",
+            " must not be empty",
+        ),
         None => Ok(()),
     }
 }
@@ -78,7 +81,7 @@ fn compare_written(
     changes: &[Change],
     found: &mut Differences,
 ) -> Result<(), Memory> {
-    for path in outcome.folder.written() {
+    for path in outcome.outside.folder.written() {
         if !is_among(path.as_str(), changes) {
             found.push(path.as_str(), " is written, and must not be")?;
         }
@@ -94,13 +97,13 @@ fn compare_change(
     found: &mut Differences,
 ) -> Result<(), RowFault> {
     let path = change.path.as_str();
-    if !is_written(path, outcome.folder.written()) {
+    if !is_written(path, outcome.outside.folder.written()) {
         return Ok(found.push(path, " must be written")?);
     }
     if let Some(bytes) = &change.bytes {
         compare_file(
             alloc,
-            outcome.folder.folder(),
+            outcome.outside.folder.folder(),
             path,
             bytes.as_slice(),
             found,
@@ -134,7 +137,7 @@ fn compare_paths(
             continue;
         }
         if let Some(bytes) = tree.file(path) {
-            compare_file(alloc, outcome.folder.folder(), path, bytes, found)?;
+            compare_file(alloc, outcome.outside.folder.folder(), path, bytes, found)?;
         }
     }
     Ok(())
@@ -172,7 +175,7 @@ pub(crate) fn compare_looks(
     found: &mut Differences,
 ) -> Result<(), RowFault> {
     let wanted = words_text(alloc, looks)?;
-    let got = paths_text(alloc, outcome.folder.looked())?;
+    let got = paths_text(alloc, outcome.outside.folder.looked())?;
     Ok(found.compare(
         alloc,
         "what is looked at",
@@ -205,7 +208,7 @@ pub(crate) fn compare_shown(
     found: &mut Differences,
 ) -> Result<(), RowFault> {
     let wanted = showings_text(alloc, shown)?;
-    let got = showings_text(alloc, outcome.shown.texts())?;
+    let got = showings_text(alloc, outcome.outside.watch.texts())?;
     Ok(found.compare(alloc, "what is shown", wanted.as_bytes(), got.as_bytes())?)
 }
 

@@ -8,7 +8,6 @@ use std::alloc::Global;
 use tree_model::{MemFolder, MemSink};
 
 /// What is outside of a run.
-#[derive(Drop)]
 pub(crate) struct Outside {
     pub folder: Watched<MemFolder>,
     pub input: Pieces,
@@ -16,24 +15,23 @@ pub(crate) struct Outside {
     pub watch: Showings,
 }
 
-/// How a run ended, with what it left.
-pub(crate) struct Outcome {
-    pub status: u8,
-    pub folder: Watched<MemFolder>,
-    pub out: MemSink,
-    pub shown: Showings,
-}
-
 // Written out once, since many functions end with an outcome in hand at many places.
-impl Drop for Outcome {
+impl Drop for Outside {
     fn drop(self) {
-        let Outcome {
-            status: _,
+        let Outside {
             folder: _,
+            input: _,
             out: _,
-            shown: _,
+            watch: _,
         } = self;
     }
+}
+
+/// How a run ended, and what is outside of it then.
+#[derive(Drop)]
+pub(crate) struct Outcome {
+    pub status: u8,
+    pub outside: Outside,
 }
 
 impl Outside {
@@ -46,33 +44,26 @@ impl Outside {
         input: &[u8],
         fails: &Fails,
     ) -> Result<Outside, RowFault> {
-        let folder = tree.folder(alloc, fails.looks.as_slice(), fails.writes.as_slice())?;
         let most = run.piece.unwrap_or(u64::MAX) as usize;
         Ok(Outside {
-            folder: Watched::new(alloc, folder),
             input: Pieces::new(alloc, input, most, fails.takes.as_slice())?,
             out: MemSink::new(alloc, fails.gives.as_slice())?,
             watch: Showings::new(alloc, run.shown.is_some()),
+            folder: Watched::new(
+                alloc,
+                tree.folder(alloc, fails.looks.as_slice(), fails.writes.as_slice())?,
+            ),
         })
     }
 
     /// What is left behind by what ended with this status.
     pub fn left(self, status: u8) -> Result<Outcome, RowFault> {
-        let Outside {
-            folder,
-            input,
-            out,
-            watch,
-        } = self;
-        drop(input);
-        if !folder.is_whole() {
+        if !self.folder.is_whole() {
             return Err(RowFault::Memory);
         }
         Ok(Outcome {
             status,
-            folder,
-            out,
-            shown: watch,
+            outside: self,
         })
     }
 }
