@@ -17,8 +17,8 @@ returns-in-Err-reported-clause-explains g c =
     let after = g.F.Folder.state c.traced.new.folder in
     no_report c.args.path.now c.args.config.now before after c.in-Ok.trace (subst (λ (r : Result Traced Stop). Tracing c.args.config.now before (gathered_of r) after) c.in-Ok.is c.traced.ensures.traces)
 
-pub returns-clause-explains : goal.returns-clause-explains
-returns-clause-explains g c =
+pub returns-in-Ok-reported-clause-explains : goal.returns-in-Ok-reported-clause-explains
+returns-in-Ok-reported-clause-explains g c =
     let before = g.F.Folder.state c.args.folder.now in
     let after = g.F.Folder.state c.traced.new.folder in
     explains c.args.path.now c.args.config.now before after c.in-Ok.trace (subst (λ (r : Result Traced Stop). Tracing c.args.config.now before (gathered_of r) after) c.in-Ok.is c.traced.ensures.traces)

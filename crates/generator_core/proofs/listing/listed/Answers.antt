@@ -17,8 +17,8 @@ returns-in-Err-module_text-clause-lists g c =
     let after = g.F.Folder.state c.traced.new.folder in
     no_list c.args.config.now before after c.in-Ok.trace.gathered (subst (λ (r : Result Traced Stop). Tracing c.args.config.now before (gathered_of r) after) c.in-Ok.is c.traced.ensures.traces)
 
-pub returns-clause-lists : goal.returns-clause-lists
-returns-clause-lists g c =
+pub returns-in-Ok-module_text-clause-lists : goal.returns-in-Ok-module_text-clause-lists
+returns-in-Ok-module_text-clause-lists g c =
     let before = g.F.Folder.state c.args.folder.now in
     let after = g.F.Folder.state c.traced.new.folder in
     lists c.args.config.now before after c.in-Ok.trace.gathered (subst (λ (r : Result Traced Stop). Tracing c.args.config.now before (gathered_of r) after) c.in-Ok.is c.traced.ensures.traces) _ refl c.in-Ok-module_text.ensures
