@@ -160,7 +160,7 @@ def measure(shape, work, modules, slack, tries, peers):
             f"at most {4 * slack}")
     if peers:
         label = f"{shape.__name__} of {modules // 2} modules"
-        against_peer("esbuild", once, esbuild(half, tries), 0.5, label)
+        against_peer("esbuild", once, esbuild(half, tries), 0.25, label)
         against_peer("Node with es-module-lexer", once, node(half, tries), 0.1, label)
 
 
@@ -177,11 +177,11 @@ def measure_packages(work, count, slack, tries, peers):
     say(ratio <= 12 * slack, f"{label}: {ten.times()}, {ratio:.2f} times as long as for a tenth of them, "
                              f"{once.seconds:.3f} s, at most {12 * slack}")
     sums = floor(whole, tries)
-    say(ten.seconds <= max(4 * slack * sums.seconds, NOISE),
+    say(ten.seconds <= max(1.8 * slack * sums.seconds, NOISE),
         f"{label}: {ten.seconds / sums.seconds:.2f} times as long as sha384sum, {sums.seconds:.3f} s, "
-        f"at most {4 * slack}")
+        f"at most {1.8 * slack}")
     if peers:
-        against_peer("esbuild", ten, esbuild(whole, tries), 0.5, label)
+        against_peer("esbuild", ten, esbuild(whole, tries), 0.25, label)
         against_peer("Node with es-module-lexer", ten, node(whole, tries), 0.1, label)
 
 
