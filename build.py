@@ -7,6 +7,7 @@ again. `build.py --lanes 1` takes one crate after another, `--anew` keeps nothin
 """
 import argparse
 import concurrent.futures
+import functools
 import hashlib
 import os
 import pathlib
@@ -19,6 +20,10 @@ ROOT = pathlib.Path(__file__).resolve().parent
 PROGRAM = 'generator_cli'
 # What a proof takes of memory at the most, in bytes.
 ROOM = 2_500_000_000
+# What a crate without code takes, as so many lines of code: its proofs take little beside the reading of what lies below.
+LEAST = 100
+# By how much each proof stands behind the next more urgent one, in steps of the system's priorities.
+STEP = 3
 
 
 def kit():
@@ -84,26 +89,28 @@ def words(crates, crate, kit_folder):
             f'{kit_folder}/logic_built', '--links', f'{crate.name}=']
 
 
-def run(crate, command):
-    """runs a command in the crate's folder, its output in the crate's log; whether it succeeded"""
+def run(crate, behind, command):
+    """runs a command in the crate's folder, its output in the crate's log, so many steps behind others; whether it succeeded"""
     with open(crate.built / 'log', 'a', encoding='utf8') as log:
-        return not subprocess.run(command, cwd=crate.folder, stdin=subprocess.DEVNULL, stdout=log, stderr=log).returncode
+        started = subprocess.Popen(command, cwd=crate.folder, stdin=subprocess.DEVNULL, stdout=log, stderr=log)
+        os.setpriority(os.PRIO_PROCESS, started.pid, os.getpriority(os.PRIO_PROCESS, 0) + behind)
+        return not started.wait()
 
 
-def prove(crates, crate, kit_folder, jobs, stamp):
-    """proves a crate and builds its library, or the program; whether that succeeded"""
+def prove(crates, crate, kit_folder, rank, jobs, stamp):
+    """proves a crate and builds its library, or the program, behind `rank` others; whether that succeeded"""
+    run_one = functools.partial(run, crate, STEP * rank)
     shutil.rmtree(crate.built, ignore_errors=True)
     crate.built.mkdir(parents=True)
     rattle = [f'{kit_folder}/bin/rattle', 'build', *words(crates, crate, kit_folder), '--jobs', str(jobs)]
     if crate.name != PROGRAM:
-        is_made = run(crate, [*rattle, '--statements', '-o', str(crate.rlib)])
+        is_made = run_one([*rattle, '--statements', '-o', str(crate.rlib)])
     else:
         toolchain = ['--toolchain', f'{kit_folder}/toolchain']
         made, program = str(crate.built / f'{PROGRAM}.o'), str(crate.folder / 'out' / PROGRAM)
         libraries = [f'{kit_folder}/c/libos_c.a', f'{kit_folder}/c/liblibc_c.a']
         link = [f'{kit_folder}/bin/rattle-link', '--target', 'x86_64-unknown-linux-gnu', *toolchain, '-o', program]
-        is_made = (run(crate, [*rattle, *toolchain, '--backend', 'llvm', '-o', made])
-                   and run(crate, [*link, made, *libraries]))
+        is_made = run_one([*rattle, *toolchain, '--backend', 'llvm', '-o', made]) and run_one([*link, made, *libraries])
     if is_made:
         (crate.built / 'stamp').write_text(stamp, encoding='utf8')
     return is_made
@@ -116,11 +123,11 @@ def is_kept(crate, stamp):
 
 
 def chains(crates):
-    """for each crate how many lines lie on the longest way from it up to the program"""
-    lines = {name: sum(it.read_bytes().count(b'\n') for it in crate.files()) for name, crate in crates.items()}
+    """for each crate how much work lies on the longest way from it up to the program, in lines of code"""
     found = dict.fromkeys(crates, 0)
     for name in reversed(crates):
-        found[name] += lines[name]
+        lines = sum(it.read_bytes().count(b'\n') for it in crates[name].files() if it.suffix == '.rt')
+        found[name] += LEAST + lines
         for other in crates[name].own:
             found[other] = max(found[other], found[name])
     return found
@@ -133,18 +140,21 @@ def lanes():
     return max(1, min(len(os.sched_getaffinity(0)), free // ROOM))
 
 
-def build(crates, kept, kit_folder, stamp_of, many):
+def build(crates, kept, kit_folder, stamp_of, many, most):
     """proves all crates but those that are kept, those with the longest way up first; the name of one that failed, if one did"""
-    began, total, behind = time.monotonic(), len(crates), chains(crates)
-    left, done, running = sorted(crates.keys() - kept, key=lambda it: -behind[it]), set(kept), {}
-    with concurrent.futures.ThreadPoolExecutor(many) as pool:
+    began, total, way = time.monotonic(), len(crates), chains(crates)
+    left, done, running = sorted(crates.keys() - kept, key=lambda it: -way[it]), set(kept), {}
+    # One more where each lane has a proof, and none of these has as long a way up.
+    with concurrent.futures.ThreadPoolExecutor(many + 1) as pool:
         while left or running:
-            ready = [it for it in left if all(other in done for other in crates[it].own)]
-            for name in ready[:many - len(running)]:
-                # A proof that nothing else waits beside gets the processors that are left over.
-                jobs = max(1, (many - len(running)) // len(ready))
+            for name in [it for it in left if all(other in done for other in crates[it].own)]:
+                rank = sum(way[it] > way[name] for it in running.values())
+                if len(running) >= many and (rank or many == 1 or len(running) > many):
+                    break
                 left.remove(name)
-                task = pool.submit(prove, crates, crates[name], kit_folder, jobs, stamp_of[name])
+                # The most urgent may take all processors, the next half of them; the priorities share these out.
+                jobs = max(1, most >> rank)
+                task = pool.submit(prove, crates, crates[name], kit_folder, rank, jobs, stamp_of[name])
                 running[task] = name
             for task in concurrent.futures.wait(running, return_when=concurrent.futures.FIRST_COMPLETED).done:
                 name = running.pop(task)
@@ -168,7 +178,7 @@ def main():
     kept = {name for name in crates if name != PROGRAM and not said.anew and is_kept(crates[name], stamp_of[name])}
     if kept:
         print(f'build.sh: {len(kept)} of {len(crates)} crates are as they were proved before', flush=True)
-    failed = build(crates, kept, kit_folder, stamp_of, said.lanes or lanes())
+    failed = build(crates, kept, kit_folder, stamp_of, said.lanes or lanes(), lanes())
     if failed:
         log = crates[failed].built / 'log'
         print(f'build.sh: {failed} is not proved; {log} has it all', file=sys.stderr)
