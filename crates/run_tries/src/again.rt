@@ -1,13 +1,13 @@
 //! A session whose edits are made again where a look failed or memory was wanting.
 ghost use Rattle.std.specs.Prelude.{◌≡◌, ◌<◌};
 
-use crate::outside::{Outcome, Outside};
 use crate::repeating::{Repeating, Told};
 use edit_session::Session;
 use generation::Stop;
 use project_file::{ProjectFault, read_project};
 use request_trace::Config;
 use row_files::{Fails, RowFault, Run, Tree};
+use run_outcomes::{Outcome, Outside};
 use run_texts::{WRITE_FAULT, done_line};
 use session_input::SessionInput;
 use session_talk::converse;

@@ -1,13 +1,9 @@
 //! How a run may end of which one allocation fails.
 
 use crate::again::{Repeated, again_outcome};
-use crate::comparing::differences;
-use crate::expected::{Ending, Expected};
 use crate::outcome::outcome_of;
-use crate::outside::Outcome;
-use crate::parts::push_all;
-use crate::replies::Replies;
 use row_files::{Change, Reader, Row, RowFault, Run};
+use run_outcomes::{Ending, Expected, Outcome, Replies, differences, push_all};
 use shared_types::Memory;
 use std::alloc::Global;
 

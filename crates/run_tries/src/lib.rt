@@ -3,19 +3,11 @@
 #![tactic(auto)]
 
 mod again;
-mod comparing;
 mod ending;
 mod endless;
-mod expected;
 mod outcome;
-mod outside;
-mod parts;
-mod pieces;
 mod repeating;
-mod replies;
-mod showings;
 mod trying;
-mod watched;
 
 pub use ending::endings;
 pub use endless::endless_line;

@@ -1,9 +1,9 @@
 //! A run, and what it leaves.
 ghost use Rattle.std.specs.Prelude.{◌≡◌, ◌<◌};
 
-use crate::outside::{Outcome, Outside};
 use generator_core::run;
 use row_files::{Fails, RowFault, Run, Tree};
+use run_outcomes::{Outcome, Outside};
 use shared_types::Steps;
 use std::alloc::Global;
 use std::marker::Brand;

@@ -1,14 +1,13 @@
 //! Tries rows.
 
 use crate::again::{Repeated, again_outcome};
-use crate::comparing::{compare_looks, compare_shown, differences};
-use crate::expected::{Ending, Expected};
 use crate::outcome::outcome_of;
-use crate::outside::Outcome;
-use crate::parts::push_all;
 use crate::repeating::Told;
 use row_files::{
     Call, Change, Cut, Differences, Fails, Reader, Report, Row, RowFault, Run, Tree, Turns,
+};
+use run_outcomes::{
+    Ending, Expected, Outcome, compare_looks, compare_shown, differences, push_all,
 };
 use shared_types::Memory;
 use std::alloc::Global;

@@ -14,7 +14,7 @@ struct Piece {
 /// A source that gives bytes of one piece at a time, of which the calls with given numbers fail. They are numbered from
 /// 1.
 #[derive(Drop)]
-pub(crate) struct Pieces {
+pub struct Pieces {
     pieces: Vec<Piece>,
     at: usize,
     takes: u64,

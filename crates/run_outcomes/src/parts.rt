@@ -3,7 +3,7 @@
 use shared_types::Memory;
 
 /// Puts texts at the end, one after another.
-pub(crate) fn push_all(text: &mut String, parts: &[&str]) -> Result<(), Memory> {
+pub fn push_all(text: &mut String, parts: &[&str]) -> Result<(), Memory> {
     for part in parts {
         text.push_str(part)?;
     }

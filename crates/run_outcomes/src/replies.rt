@@ -6,13 +6,14 @@ use std::str;
 
 /// Where the parts of a session's output end: 0, and behind each line that is no line of a map, and behind each map.
 #[derive(Drop)]
-pub(crate) struct Replies {
+pub struct Replies {
     ends: Vec<usize>,
     /// Whether a map stands behind the part that ends there.
     are_fronts: Vec<bool>,
 }
 
 impl Replies {
+    /// Those of what a session said.
     pub fn of(alloc: Global, said: &[u8]) -> Result<Replies, Memory> {
         let mut replies = Replies {
             ends: vec![in alloc; 0]?,

@@ -9,7 +9,7 @@ use std::alloc::Global;
 use tree_model::{MemFolder, Path};
 
 /// Where a run over a tree ended otherwise.
-pub(crate) fn differences(
+pub fn differences(
     alloc: Global,
     tree: &Tree,
     outcome: &Outcome,
@@ -168,7 +168,7 @@ fn compare_bytes(
 }
 
 /// Whether the run looked at these paths, in this order.
-pub(crate) fn compare_looks(
+pub fn compare_looks(
     alloc: Global,
     outcome: &Outcome,
     looks: &[String],
@@ -201,7 +201,7 @@ fn paths_text(alloc: Global, paths: &[Path]) -> Result<String, Memory> {
 }
 
 /// Whether this is what the run shows.
-pub(crate) fn compare_shown(
+pub fn compare_shown(
     alloc: Global,
     outcome: &Outcome,
     shown: &[String],

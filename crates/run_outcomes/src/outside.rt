@@ -8,10 +8,14 @@ use std::alloc::Global;
 use tree_model::{MemFolder, MemSink};
 
 /// What is outside of a run.
-pub(crate) struct Outside {
+pub struct Outside {
+    /// The folder over which it goes.
     pub folder: Watched<MemFolder>,
+    /// Where it takes its input.
     pub input: Pieces,
+    /// Where it gives its output.
     pub out: MemSink,
+    /// What a session is shown to.
     pub watch: Showings,
 }
 
@@ -29,8 +33,10 @@ impl Drop for Outside {
 
 /// How a run ended, and what is outside of it then.
 #[derive(Drop)]
-pub(crate) struct Outcome {
+pub struct Outcome {
+    /// What the run ended with.
     pub status: u8,
+    /// The folder, the input, the output and the watch, as it left them.
     pub outside: Outside,
 }
 
@@ -56,7 +62,7 @@ impl Outside {
         })
     }
 
-    /// What is left behind by what ended with this status.
+    /// What is left behind by what ended with this status; `Memory` where a path that was looked at or written is missing.
     pub fn left(self, status: u8) -> Result<Outcome, RowFault> {
         if !self.folder.is_whole() {
             return Err(RowFault::Memory);

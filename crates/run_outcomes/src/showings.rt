@@ -10,7 +10,7 @@ use tree_model::Path;
 /// The showings of a run. Each slot has a number, by the order in which slots are shown first: in trace order, and one
 /// showing after another.
 #[derive(Drop)]
-pub(crate) struct Showings {
+pub struct Showings {
     /// Whether they are kept.
     is_told: bool,
     /// A text for each showing, with a module on each line.
@@ -45,6 +45,7 @@ impl Showings {
         }
     }
 
+    /// The texts of the showings, in their order.
     pub fn texts(&self) -> &[String] {
         self.texts.as_slice()
     }

@@ -5,21 +5,24 @@ use std::alloc::Global;
 
 /// The status, what is said, and the files that are written.
 #[derive(Clone, Copy)]
-pub(crate) struct Expected<'a> {
+pub struct Expected<'a> {
+    /// What the run ends with.
     pub status: u8,
     /// None where something is said that isn't told.
     pub said: Option<&'a [u8]>,
+    /// The files that are written, by path and text.
     pub changes: &'a [Change],
 }
 
 /// What `STATUS LINE` and the block below it ask for: the status, and what is said.
 #[derive(Drop)]
-pub(crate) struct Ending {
+pub struct Ending {
     status: u8,
     said: Option<Vec<u8>>,
 }
 
 impl Ending {
+    /// That of a row; `Malformed` where its status is no number below 256.
     pub fn of(alloc: Global, wanted: &Wanted) -> Result<Ending, RowFault> {
         let text = wanted.text.as_str();
         let (status, line) = text.split_once(' ').unwrap_or((text, ""));

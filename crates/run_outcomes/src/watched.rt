@@ -5,7 +5,7 @@ use tree_model::{Failed, Folder, Look, LookFault, Path, Paths};
 
 /// A folder with the paths that were looked at and those that were written, in their order.
 #[derive(Drop)]
-pub(crate) struct Watched<F> {
+pub struct Watched<F> {
     folder: F,
     alloc: Global,
     looked: Paths,
@@ -15,6 +15,7 @@ pub(crate) struct Watched<F> {
 }
 
 impl<F> Watched<F> {
+    /// A folder of which nothing was asked yet.
     pub fn new(alloc: Global, folder: F) -> Watched<F> {
         Watched {
             folder,
@@ -25,6 +26,7 @@ impl<F> Watched<F> {
         }
     }
 
+    /// The folder itself.
     pub fn folder(&self) -> &F {
         &self.folder
     }
@@ -39,6 +41,7 @@ impl<F> Watched<F> {
         self.written.as_slice()
     }
 
+    /// Whether no path is missing for want of memory.
     pub fn is_whole(&self) -> bool {
         self.is_whole
     }
