@@ -124,7 +124,13 @@ impl Session {
             &config,
             steps,
         ) {
-            Err(stop) => Err(stop),
+            Err(stop) => {
+                drop(answers);
+                drop(known);
+                drop(shown);
+                drop(config);
+                Err(stop)
+            }
             Ok(generated) => {
                 answers.exchange();
                 shown.commit();
@@ -211,7 +217,13 @@ impl Session {
                 changed,
             },
             Some(Prepared::Changed { pending }) => {
-                let Pending { over, .. } = pending;
+                let Pending {
+                    over,
+                    entries,
+                    generated,
+                } = pending;
+                drop(entries);
+                drop(generated);
                 Looks {
                     known,
                     over,
@@ -235,9 +247,9 @@ impl Session {
             over,
             changed,
         } = looks;
-        self.known = known;
-        self.spare = over;
-        self.changed = changed;
+        drop(mem::replace(&mut self.known, known));
+        drop(mem::replace(&mut self.spare, over));
+        drop(mem::replace(&mut self.changed, changed));
     }
 
     fn put_same(&mut self, looks: Looks)
@@ -250,7 +262,7 @@ impl Session {
         ensures pending { self.new.pending ≡ Some Same }
     {
         self.put_back(looks);
-        self.pending = Some(Prepared::Same);
+        drop(self.pending.replace(Prepared::Same));
     }
 
     fn put_pending(&mut self, looks: Looks, made: Made)
@@ -268,14 +280,14 @@ impl Session {
             changed,
         } = looks;
         let Made { entries, generated } = made;
-        self.known = known;
-        self.changed = changed;
+        drop(mem::replace(&mut self.known, known));
+        drop(mem::replace(&mut self.changed, changed));
         let pending = Pending {
             over,
             entries,
             generated,
         };
-        self.pending = Some(Prepared::Changed { pending });
+        drop(self.pending.replace(Prepared::Changed { pending }));
     }
 
     /// Makes what is pending the state of the session.

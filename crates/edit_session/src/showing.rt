@@ -66,9 +66,9 @@ impl Showing {
         // What is known of a trace is known where it is looked at.
         let _view = trace.view();
         let _count = trace.len();
-        self.plan = None;
+        drop(self.plan.take());
         let plan = self.graph.plan(alloc, trace.graph())?;
-        self.plan = Some(plan);
+        drop(self.plan.replace(plan));
         Ok(())
     }
 

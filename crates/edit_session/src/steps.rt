@@ -23,6 +23,7 @@ use package_lookup::{Known, Over};
 use request_trace::Config;
 use shared_types::{Memory, Steps};
 use std::alloc::Global;
+use std::mem;
 use std::sync::ledger::Ledger;
 use tree_model::Folder;
 
@@ -88,7 +89,10 @@ fn make<F: Folder, L: Ledger>(
 {
     let mut entries = entries;
     match make_all(alloc, looks, &mut entries, folder, edit.as_slice()) {
-        Err(stop) => Err(EditStop::of_change(stop)),
+        Err(stop) => {
+            drop(entries);
+            Err(EditStop::of_change(stop))
+        }
         Ok(()) => generate(alloc, answers, shown, looks, config, entries, folder, steps),
     }
 }
@@ -117,7 +121,10 @@ fn generate<F: Folder, L: Ledger>(
     let mut entries = entries;
     let found = looks.try_map(alloc, answers, shown, config, &mut entries, folder, steps);
     match found {
-        Err(stop) => Err(EditStop::of_map(stop)),
+        Err(stop) => {
+            drop(entries);
+            Err(EditStop::of_map(stop))
+        }
         Ok(generated) => Ok(Made { entries, generated }),
     }
 }
@@ -147,8 +154,9 @@ pub(crate) fn step(
     let mut entries = entries;
     known.lay(&mut over);
     entries.exchange(config);
-    *generated = map;
+    drop(entries);
+    drop(mem::replace(generated, map));
     answers.exchange();
     shown.commit();
-    *spare = over;
+    drop(mem::replace(spare, over));
 }
