@@ -124,7 +124,7 @@ unlinked (entry ∷ more) config =
     then unlinked more (record config { entries = without entry config.entries })
     else Err (NotLinked entry)
 
--- own: of the commands that are built, every one but `link` needs a project
+-- own: every command but `link` needs a project
 abbrev pub if_there : Option Config → (Config → Result Config ConfigFault) → Result Config ConfigFault
 if_there None next = Err (Project Absent)
 if_there (Some config) next = next config
