@@ -3,16 +3,17 @@
 --     ready_of                         the parts are ready
 --     nothing_found                    what is found in a new graph
 --     repairs_by                       a repair by a plan
---     grown_few, less_few, begun_few   how many places there are then
+--     grown_few, begun_few             how many places there are then
 use Rattle.std.proofs.Common.{◌≡◌, ◌≢◌, ◌≤◌, ◌<◌, ◌+◌, ◌-◌, ◌%◌, ◌++◌, ℕ, zero, suc, List, [], ◌∷◌, length, map, reverse, replicate, take, Option, Some, None, Result, Ok, Err, IfOk, refl, sym, ap, ◌∙◌, subst, arith, inl, inr}
-use Rattle.std.specs.Prelude.{◌⊎◌, ◌*◌, All, IfSome, flat_map}
+use Rattle.std.specs.Prelude.{◌⊎◌, All, IfSome, flat_map}
 use Rattle.tree_spec.specs.declared.LimitName.TheVariants.{Modules}
 use Rattle.tree_spec.specs.Limits.{limit_number}
 use Rattle.std.proofs.lemmas.List.{length-map, length-reverse, reverse-reverse}
 use Rattle.std.proofs.lemmas.List.Elements.{All-nil, All-weaker}
 use Rattle.slot_arena.specs.Slots.{Place, value_at, IsGiven, with_places}
+use Rattle.slot_arena.proofs.Reserving.{wanted_few}
 use Rattle.slot_arena.proofs.SlotLaws.{each_grows}
-use Rattle.slot_arena.specs.Counts.{spare, live, wanted, GrewLess}
+use Rattle.slot_arena.specs.Counts.{spare, live, wanted}
 use Rattle.slot_arena.specs.declared.slot.Slot.{Slot}
 use Rattle.module_graph.specs.declared.module.Module as vertex
 use Rattle.module_graph.specs.Graphs.{AreModules}
@@ -195,6 +196,9 @@ linked_moved g h slots same linked = record {
 pub shows_itself : (l : Links) → ShowsSame l l
 shows_itself l = record { calls = begin; slots = refl; values = λ s. refl; as_many = refl; no_fewer = omega arith }
 
+pub shows_same : (g h : Places) (slots : List Slot) → h ≡ g → ShowsSame (shown g slots) (shown h slots)
+shows_same g h slots is = subst (λ a. ShowsSame (shown g slots) (shown a slots)) (sym is) (shows_itself (shown g slots))
+
 pub shows_grown : (g h : Places) (n : ℕ) (slots : List Slot) → h ≡ with_places g n → ShowsSame (shown g slots) (shown h slots)
 shows_grown g h n slots is =
     let law = each_grows Vertex g n in
@@ -206,24 +210,12 @@ shows_grown g h n slots is =
       no_fewer = (let more = law.made in let same = ap length is in omega (arith, more, same));
     }
 
-wanted_few : (have n : ℕ) → wanted have n ≤ n + 63
-wanted_few have n =
-    let r : (n - have + 63) % 64 < 64 = mod-lt (n - have + 63) (omega arith) in
-    omega (arith, div-add-mod' (n - have + 63) 64, r)
-
 pub grown_few : (g h : Places) (n : ℕ) → n ≤ limit_number Modules → h ≡ with_places g (wanted (spare g) n) → length h ≤ length g + most_at_once
 grown_few g h n few is =
     let made = (each_grows Vertex g (wanted (spare g) n)).made in
     let same = ap length is in
     let less = wanted_few (spare g) n in
     omega (arith, made, same, less, few)
-
-pub less_few : (g h : Places) (n : ℕ) → n ≤ limit_number Modules → GrewLess g h n → length h ≤ length g + most_at_once
-less_few g h n few (k, lt, is) =
-    let made = (each_grows Vertex g (k * 64)).made in
-    let same = ap length is in
-    let less = wanted_few (spare g) n in
-    omega (arith, made, same, less, lt, few)
 
 pub begun_few : (empty h : Places) (n : ℕ) → empty ≡ [] → n ≤ limit_number Modules → h ≡ with_places empty (wanted (spare empty) n) → length h ≤ most_at_once
 begun_few empty h n none few is =

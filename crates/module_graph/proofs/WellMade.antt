@@ -1,10 +1,10 @@
 -- The modules of a graph stay well made through each change.
-use Rattle.std.proofs.Common.{◌≡◌, ◌≤◌, inl, inr, ℕ, zero, suc, ◌+◌, ◌*◌, ◌<◌, ◌==◌, if◌then◌else◌, Bool, true, false, List, [], ◌∷◌, length, slice_set, Option, Some, None, Result, Ok, Err, OnOk, OnErr, sym, ◌∙◌, subst, arith, length-set}
+use Rattle.std.proofs.Common.{◌≡◌, ◌≤◌, inl, inr, ℕ, zero, suc, ◌+◌, ◌<◌, ◌==◌, if◌then◌else◌, Bool, true, false, List, [], ◌∷◌, length, slice_set, Option, Some, None, Result, Ok, Err, OnOk, OnErr, sym, ◌∙◌, subst, arith, length-set}
 use Rattle.std.proofs.lemmas.Grind.{common_steps}
 use Rattle.std.proofs.lemmas.Option.{slice_get_past}
 use Rattle.slot_arena.proofs.Times.{below_or_not}
 use Rattle.slot_arena.specs.Slots.{Place, place, place_at, value_at, set_at, with_places, taken_from}
-use Rattle.slot_arena.specs.Counts.{spare, wanted, GrewLess}
+use Rattle.slot_arena.specs.Counts.{spare, wanted}
 use Rattle.slot_arena.specs.declared.slot.Slot.{Slot}
 use Rattle.module_graph.specs.declared.module.Module.{Module}
 use Rattle.module_graph.specs.Modules.{HasSpan, IsModule, SetsTarget}
@@ -36,10 +36,10 @@ modules-grown [] (suc n) w (suc q) m is = modules-grown [] n w q m is
 modules-grown (p ∷ ps) n w zero m is = w zero m is
 modules-grown (p ∷ ps) n w (suc q) m is = modules-grown ps n (λ k. w (suc k)) q m is
 
-pub modules-reserved : {A E : Type 0} (r : Result A E) (old new : List (Place Module)) (n : ℕ) → OnOk r (new ≡ with_places old (wanted (spare old) n)) → OnErr r (GrewLess old new n)
+pub modules-reserved : {A E : Type 0} (r : Result A E) (old new : List (Place Module)) (n : ℕ) → OnOk r (new ≡ with_places old (wanted (spare old) n)) → OnErr r (new ≡ old)
     → AreModules old → AreModules new
 modules-reserved (Ok x) old new n ok err w = subst AreModules (sym ok) (modules-grown old (wanted (spare old) n) w)
-modules-reserved (Err e) old new n ok err w = subst AreModules (sym err.2) (modules-grown old (err.0 * 64) w)
+modules-reserved (Err e) old new n ok err w = subst AreModules (sym err) w
 
 pub modules-taken : (o : Option Module) (g : List (Place Module)) (s : Slot) → AreModules g → AreModules (taken_from g s o)
 modules-taken None g s w = w

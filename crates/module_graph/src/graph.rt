@@ -1,6 +1,6 @@
 ghost use Rattle.std.specs.Prelude.{◌≡◌, ◌+◌, ◌-◌, ◌^◌, ◌<◌, [], length, option_copied, IfSome, OnOk, OnErr, Some};
 ghost use Rattle.slot_arena.specs.Slots.{value_at, IsFresh, set_at, with_places, taken_from};
-ghost use Rattle.slot_arena.specs.Counts.{spare, live, wanted, GrewLess};
+ghost use Rattle.slot_arena.specs.Counts.{spare, live, wanted};
 ghost use Rattle.module_graph.specs.Modules.{IsModule, SetsTarget};
 ghost use Rattle.module_graph.specs.Graphs.{AreModules, Connects};
 
@@ -43,11 +43,11 @@ impl Graph {
         }
     }
 
-    /// Makes places until `n` modules can be added. Without memory, fewer than are wanted may have been made.
+    /// Makes places until `n` modules can be added. Without memory all stays as it was.
     pub fn reserve(&mut self, n: u32) -> Result<(), Memory>
         requires { length self.old + n < 2 ^ 32 - 64 }
         ensures ok { OnOk result (self.new ≡ with_places self.old (wanted (spare self.old) n)) }
-        ensures err { OnErr result (GrewLess self.old self.new n) }
+        ensures err { OnErr result (self.new ≡ self.old) }
     {
         self.arena.reserve(n)
     }

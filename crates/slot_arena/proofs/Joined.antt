@@ -1,8 +1,8 @@
 -- The rows of the chunks as one row.
 use Rattle.std.proofs.Common.{◌≡◌, ℕ, zero, suc, ◌+◌, ◌*◌, ◌-◌, ◌/◌, ◌%◌, ◌<◌, List, [], ◌∷◌, ◌++◌, length, get_or, slice_set, replicate, Option, None, refl, sym, ap, ◌∙◌, subst, arith, length-append, length-set}
-use Rattle.std.proofs.lemmas.List.{get_or_append_left, set-append_left, get_or-append_right, set-append_right, append-nil, append_assoc}
+use Rattle.std.proofs.lemmas.List.{get_or_append_left, set-append_left, get_or-append_right, set-append_right, append-nil, append_assoc, append_cancel_right, replicate-append-replicate, replicate_more, same_from_push}
 use native.Mathlib.Nat.{zero-mul, suc-mul, div-add-mod', mod-lt}
-use Rattle.slot_arena.specs.Rows.{joined, AreChunks}
+use Rattle.slot_arena.specs.Rows.{joined, AreChunks, with_chunks}
 
 module _ {X : Type 0} where
   pub length-joined : (rows : List (List X)) → AreChunks rows → length (joined rows) ≡ length rows * 64
@@ -18,14 +18,6 @@ module _ {X : Type 0} where
   chunks-set [] w q c long = tt
   chunks-set (row ∷ rows) w zero c long = (long, w.1)
   chunks-set (row ∷ rows) w (suc q) c long = (w.0, chunks-set rows w.1 q c long)
-
-  pub chunks-append : (rows : List (List X)) (w : AreChunks rows) (c : List X) → length c ≡ 64 → AreChunks (rows ++ c ∷ [])
-  chunks-append [] w c long = (long, tt)
-  chunks-append (row ∷ rows) w c long = (w.0, chunks-append rows w.1 c long)
-
-  pub joined-append : (rows : List (List X)) (c : List X) → joined (rows ++ c ∷ []) ≡ joined rows ++ c
-  joined-append [] c = append-nil c
-  joined-append (row ∷ rows) c = ap (λ l. row ++ l) (joined-append rows c) ∙ sym (append_assoc row (joined rows) c)
 
   -- where the i-th place lies
   pub record Lies (rows : List (List X)) (i : ℕ) : Type 0 where
@@ -83,3 +75,33 @@ all_empty [] zero e none = refl
 all_empty [] (suc n) e none = absurd (omega (arith, e))
 all_empty (v ∷ row) zero e none = absurd (omega (arith, e))
 all_empty (v ∷ row) (suc n) e none = λ j. none 0 (omega arith) j ∷ all_empty row n (omega (arith, e)) (λ i lt. none (suc i) (omega (arith, lt))) j
+
+-- chunks without a value behind the others
+module _ {X : Type 0} where
+  pub chunks-more : (rows : List (List (Option X))) → AreChunks rows → (n : ℕ) → AreChunks (with_chunks rows n)
+  chunks-more [] w zero = tt
+  chunks-more [] w (suc n) = (refl, chunks-more [] tt n)
+  chunks-more (row ∷ rows) w n = (w.0, chunks-more rows w.1 n)
+
+  pub joined-more : (rows : List (List (Option X))) (n : ℕ) → joined (with_chunks rows n) ≡ joined rows ++ replicate (n * 64) None
+  joined-more [] zero = let none : Option X = None in let nothing : 0 ≡ 0 * 64 = omega arith in ap (λ k. replicate k none) nothing
+  joined-more [] (suc n) =
+      let none : Option X = None in let more : 64 + n * 64 ≡ suc n * 64 = omega (arith, suc-mul n 64) in
+      ap (λ l. replicate 64 none ++ l) (joined-more [] n) ∙ replicate-append-replicate 64 (n * 64) none ∙ ap (λ k. replicate k none) more
+  joined-more (row ∷ rows) n = ap (λ l. row ++ l) (joined-more rows n) ∙ sym (append_assoc row (joined rows) (replicate (n * 64) None))
+
+  pub chunks-next : (rows : List (List (Option X))) (n : ℕ) → with_chunks rows n ++ replicate 64 None ∷ [] ≡ with_chunks rows (n + 1)
+  chunks-next rows n =
+      let empty : List (Option X) = replicate 64 None in
+      append_assoc rows (replicate n empty) (empty ∷ []) ∙ ap (λ l. rows ++ l) (replicate_more n empty)
+
+  pub chunks-last : (rows rest : List (List (Option X))) (last : List (Option X)) (n : ℕ) → 0 < n → rows ++ last ∷ [] ≡ with_chunks rest n
+      → (rows ≡ with_chunks rest (n - 1)) × (last ≡ replicate 64 None)
+  chunks-last rows rest last zero lt is = absurd (omega (arith, lt))
+  chunks-last rows rest last (suc n) lt is =
+      let more : n + 1 ≡ suc n = omega arith in let less : n ≡ suc n - 1 = omega arith in
+      let same = same_from_push rows (with_chunks rest n) last (replicate 64 None) (is ∙ sym (chunks-next rest n ∙ ap (with_chunks rest) more)) in
+      (same.0 ∙ ap (with_chunks rest) less, same.1)
+
+  pub chunks-same : (rows others : List (List (Option X))) (n : ℕ) → with_chunks rows n ≡ with_chunks others n → rows ≡ others
+  chunks-same rows others n is = append_cancel_right rows others (replicate n (replicate 64 None)) is

@@ -5,12 +5,11 @@
 -- spare a            how many places have a slot to give
 -- live a             how many slots are live: each filled place has one
 -- wanted have n      the least multiple of 64 that brings `have` to n, 0 where it is there
--- GrewLess old new n fewer places were made, 64 at a time, than are wanted
 -- IsSound p          a place with a value gave a slot, and no place gives a generation past the last
 -- IsArena a          all places are so, and a number of 32 bits counts them
-use Rattle.std.specs.Prelude.{◌≡◌, ℕ, ◌+◌, ◌*◌, ◌-◌, ◌/◌, ◌^◌, ◌<◌, ◌≤◌, nat_lt, if◌then◌else◌, List, [], ◌∷◌, length}
+use Rattle.std.specs.Prelude.{ℕ, ◌+◌, ◌*◌, ◌-◌, ◌/◌, ◌^◌, ◌<◌, ◌≤◌, nat_lt, if◌then◌else◌, List, [], ◌∷◌, length}
 use Rattle.std.specs.Prelude.{Option, Some, None}
-use Rattle.slot_arena.specs.Slots.{Place, place_at, with_places}
+use Rattle.slot_arena.specs.Slots.{Place, place_at}
 
 module _ {X : Type 0} where
   abbrev pub vacancy_of : Option X → ℕ → ℕ
@@ -43,6 +42,3 @@ module _ {X : Type 0} where
 
 abbrev pub wanted : ℕ → ℕ → ℕ
 wanted have n = (n - have + 63) / 64 * 64
-
-abbrev pub GrewLess : {X : Type 0} → List (Place X) → List (Place X) → ℕ → Type 0
-GrewLess old new n = (k : ℕ) × (k * 64 < wanted (spare old) n) × (new ≡ with_places old (k * 64))

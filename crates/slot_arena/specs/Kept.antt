@@ -4,7 +4,7 @@
 -- times i is            how often i stands there
 -- down_to from n        from + n - 1 and so on down to from
 -- retired               a place that has no slot left
--- HasChunkRoom n m k    tables with room for m and for k take the places of one chunk beside n that there are
+-- HasRoom n m k         n places fit into tables with room for m and for k
 -- AreFields vs ns free c m     the fields of an arena: a next generation to each place, and the others as they must be
 -- IsKept a free c m     `free` names each place that has a slot to give, once; c slots are live; m places fit
 use Rattle.std.specs.Prelude.{◌≡◌, ℕ, zero, suc, ◌+◌, ◌^◌, ◌<◌, ◌≤◌, ◌==◌, if◌then◌else◌, List, [], ◌∷◌, length, get_or}
@@ -12,9 +12,9 @@ use Rattle.std.specs.Prelude.{Option, None}
 use Rattle.slot_arena.specs.Slots.{Place, place, place_at}
 use Rattle.slot_arena.specs.Counts.{vacancy, spare, live, IsSound}
 
-pub record HasChunkRoom (made next_capacity free_capacity : ℕ) : Type 0 where
-  pub next : made + 64 ≤ next_capacity
-  pub free : made + 64 ≤ free_capacity
+pub record HasRoom (count next_capacity free_capacity : ℕ) : Type 0 where
+  pub next : count ≤ next_capacity
+  pub free : count ≤ free_capacity
 
 abbrev pub times : ℕ → List ℕ → ℕ
 times i [] = 0

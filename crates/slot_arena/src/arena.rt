@@ -1,8 +1,8 @@
 ghost use Rattle.std.specs.Prelude.{◌≡◌, ◌↔◌, ◌+◌, ◌*◌, ◌-◌, ◌^◌, ◌<◌, ◌≤◌, ℕ, length, replicate, option_copied, IfOk};
 ghost use Rattle.std.specs.Prelude.{OnOk, OnErr, Some, None, IsTrue, IsSome, ◌++◌, ◌∷◌, [], vec_len, vec_capacity};
-ghost use Rattle.slot_arena.specs.Slots.{place, value_at, IsFresh, set_at, with_places, taken_from};
-ghost use Rattle.slot_arena.specs.Counts.{spare, live, wanted, GrewLess, IsArena};
-ghost use Rattle.slot_arena.specs.Kept.{HasChunkRoom, down_to};
+ghost use Rattle.slot_arena.specs.Slots.{value_at, IsFresh, set_at, with_places, taken_from};
+ghost use Rattle.slot_arena.specs.Counts.{spare, live, wanted, IsArena};
+ghost use Rattle.slot_arena.specs.Kept.{HasRoom, down_to};
 ghost use Rattle.std.specs.Option.{option_copied_mut};
 
 use crate::chunk::CHUNK;
@@ -155,59 +155,56 @@ impl<T> SlotArena<T> {
     }
 }
 
-/// Room in both tables for the places of one chunk more.
-fn make_room(next: &mut Vec<u64>, free: &mut Vec<u32>) -> Result<(), Memory>
-    requires small { vec_len next.old < 2 ^ 32 }
+/// How many chunks are made until `n` places are free, where `spare` are.
+fn chunks_wanted(spare: usize, n: u32) -> usize
+    ensures { result * 64 ≡ wanted spare n }
+{
+    ((n as usize).saturating_sub(spare) + (CHUNK - 1)) / CHUNK
+}
+
+/// Room in both tables for `more` places beside those that there are.
+fn make_room(next: &mut Vec<u64>, free: &mut Vec<u32>, more: usize) -> Result<(), Memory>
+    requires small { vec_len next.old + more < 2 ^ 32 }
     requires fewer { vec_len free.old ≤ vec_len next.old }
     ensures same { (next.new.items ≡ next.old.items) × (free.new.items ≡ free.old.items) }
     ensures kept { vec_capacity free.old ≤ vec_capacity free.new }
-    ensures room { IfOk result (λ _. HasChunkRoom (vec_len next.new) (vec_capacity next.new) (vec_capacity free.new)) }
+    ensures room { IfOk result (λ _. HasRoom (vec_len next.new + more) (vec_capacity next.new) (vec_capacity free.new)) }
 {
-    next.reserve(CHUNK)?;
-    free.reserve(next.len() + CHUNK - free.len())
+    next.reserve(more)?;
+    free.reserve(next.len() + more - free.len())
 }
 
-/// Notes the 64 places from `from` on as free, the first of them at the end, and the generation that they give next.
-fn add_places(next: &mut Vec<u64>, free: &mut Vec<u32>, from: u32, generation: u64)
-    requires next_room { vec_len next.old + 64 ≤ vec_capacity next.old }
-    requires free_room { vec_len free.old + 64 ≤ vec_capacity free.old }
-    requires small { from + 64 < 2 ^ 32 }
-    ensures next { next.new.items ≡ next.old.items ++ replicate 64 generation }
-    ensures free { free.new.items ≡ free.old.items ++ down_to from 64 }
+/// Notes `count` places from `from` on as free, the first of them at the end. Each gives generation 0 next.
+fn add_places(next: &mut Vec<u64>, free: &mut Vec<u32>, from: u32, count: u32)
+    requires next_room { vec_len next.old + count ≤ vec_capacity next.old }
+    requires free_room { vec_len free.old + count ≤ vec_capacity free.old }
+    requires small { from + count < 2 ^ 32 }
+    ensures next { next.new.items ≡ next.old.items ++ replicate count 0 }
+    ensures free { free.new.items ≡ free.old.items ++ down_to from count }
     ensures capacity { vec_capacity free.new ≡ vec_capacity free.old }
 {
-    let mut left = CHUNK as u32;
+    let mut left = count;
     while left > 0 {
         left -= 1;
-        next.push_reserved(generation);
+        next.push_reserved(0);
         free.push_reserved(from + left);
     }
 }
 
 impl<T> SlotArena<T> {
-    /// Makes 64 places that give this generation first: 0, but where a test wants to see the last ones.
-    pub(crate) fn add_chunk(&mut self, generation: u64) -> Result<(), Memory>
-        requires small { length self.old + 64 < 2 ^ 32 }
-        requires unspent { generation < 2 ^ 32 }
-        ensures ok { OnOk result (self.new ≡ self.old ++ replicate 64 (place None generation)) }
-        ensures err { OnErr result (self.new ≡ self.old) }
-    {
-        let made = self.next.len();
-        make_room(&mut self.next, &mut self.free)?;
-        self.places.grow()?;
-        add_places(&mut self.next, &mut self.free, made as u32, generation);
-        Ok(())
-    }
-
-    /// Makes places until `n` values can be inserted. Without memory, fewer than are wanted may have been made.
+    /// Makes places until `n` values can be inserted. Without memory all stays as it was.
     pub fn reserve(&mut self, n: u32) -> Result<(), Memory>
         requires { length self.old + n < 2 ^ 32 - 64 }
         ensures ok { OnOk result (self.new ≡ with_places self.old (wanted (spare self.old) n)) }
-        ensures err { OnErr result (GrewLess self.old self.new n) }
+        ensures err { OnErr result (self.new ≡ self.old) }
     {
-        while self.spare() < n {
-            self.add_chunk(0)?;
-        }
+        let made = self.next.len();
+        let spare = self.free.len();
+        let chunks = chunks_wanted(spare, n);
+        let more = chunks * CHUNK;
+        make_room(&mut self.next, &mut self.free, more)?;
+        self.places.grow(chunks)?;
+        add_places(&mut self.next, &mut self.free, made as u32, more as u32);
         Ok(())
     }
 }

@@ -104,7 +104,7 @@ impl<T> Chunk<T> {
     }
 
     /// Gives the memory of an empty chunk back.
-    fn free(self)
+    pub(crate) fn free(self)
         requires { self ≡ replicate 64 None }
     {
         let Chunk {

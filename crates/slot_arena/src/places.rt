@@ -1,12 +1,12 @@
 //! The places of all chunks, as one row.
-ghost use Rattle.std.specs.Prelude.{◌≡◌, ◌++◌, ◌<◌, [], length, replicate, get_or, slice_set, is_some, OnOk, OnErr};
+ghost use Rattle.std.specs.Prelude.{◌≡◌, ◌++◌, ◌*◌, ◌<◌, [], length, replicate, get_or, slice_set, is_some, OnOk, OnErr};
 ghost use Rattle.std.specs.Prelude.{Some, None};
 ghost use Rattle.std.specs.Borrow.{sem};
-ghost use Rattle.slot_arena.specs.Rows.{IsFilled};
+ghost use Rattle.slot_arena.specs.Rows.{IsFilled, with_chunks, EndsEmpty};
 
 use crate::chunk::{CHUNK, Chunk};
 use shared_types::Memory;
-use std::alloc::Global;
+use std::alloc::{AllocError, Global};
 use std::marker::Model;
 
 /// A contract sees the chunks as one row of places.
@@ -43,14 +43,12 @@ impl<T> Places<T> {
         }
     }
 
-    /// Makes 64 empty places behind the others. Without memory all stays as it was.
-    pub(crate) fn grow(&mut self) -> Result<(), Memory>
-        ensures ok { OnOk result (self.new ≡ self.old ++ replicate 64 None) }
+    /// Makes this many chunks of empty places behind the others. Without memory all stays as it was.
+    pub(crate) fn grow(&mut self, chunks: usize) -> Result<(), Memory>
+        ensures ok { OnOk result (self.new ≡ self.old ++ replicate (chunks * 64) None) }
         ensures err { OnErr result (self.new ≡ self.old) }
     {
-        self.chunks.reserve(1)?;
-        let chunk = Chunk::new(self.alloc)?;
-        self.chunks.push_reserved(chunk);
+        add_chunks(&mut self.chunks, self.alloc, chunks)?;
         Ok(())
     }
 
@@ -95,5 +93,33 @@ impl<T> Places<T> {
     {
         let chunk = &mut self.chunks[place / CHUNK];
         chunk.at_mut(place % CHUNK)
+    }
+}
+
+/// Puts `count` chunks behind the others. Where memory ends before the last of them, those that were made are freed.
+fn add_chunks<T>(chunks: &mut Vec<Chunk<T>>, alloc: Global, count: usize) -> Result<(), Memory>
+    ensures ok { OnOk result (chunks.new.items ≡ with_chunks chunks.old.items count) }
+    ensures err { OnErr result (chunks.new.items ≡ chunks.old.items) }
+{
+    chunks.reserve(count)?;
+    for made in 0..count {
+        let Ok(chunk) = Chunk::new(alloc) else {
+            free_last(chunks, made);
+            return Err(AllocError);
+        };
+        chunks.push_reserved(chunk);
+    }
+    Ok(())
+}
+
+/// Frees the last `count` chunks.
+fn free_last<T>(chunks: &mut Vec<Chunk<T>>, count: usize)
+    requires { EndsEmpty chunks.old.items count }
+    ensures { chunks.old.items ≡ with_chunks chunks.new.items count }
+{
+    let mut left = count;
+    while left > 0 {
+        left -= 1;
+        chunks.take_last().free();
     }
 }

@@ -8,7 +8,7 @@ use Rattle.graph_repair.specs.Finding.{IsFound}
 use Rattle.graph_repair.specs.Matching.{somes, missing}
 use Rattle.graph_repair.specs.Plans.{IsBegun, IsPlanned, shown}
 use Rattle.graph_repair.proofs.Filling.{missing_few}
-use Rattle.graph_repair.proofs.PlannedParts.{going_on, planned_anew, grown_few, less_few, shows_grown, shows_itself, if_ok}
+use Rattle.graph_repair.proofs.PlannedParts.{going_on, planned_anew, grown_few, shows_grown, shows_itself, shows_same, if_ok}
 use Rattle.graph_repair.proofs.planning.plan_of.Goals as goal
 use Rattle.graph_repair.proofs.planning.plan_of.Goals.{After-missing_in-added}
 
@@ -48,7 +48,7 @@ returns-then-made-added-ge-MOST_MADE-clause-planned c =
     planned_anew (length c.args.graph.now) c.args.graph.now slots c.args.trace.now c.args.found.left.items c.args.found.keeps.items plan found (λ below. omega (arith, many, made, count, below)) begun)
 
 pub returns-in_err-reserve-clause-same : goal.returns-in_err-reserve-clause-same
-returns-in_err-reserve-clause-same c = λ slots. shows_grown c.args.graph.now c.reserve.new.self _ slots c.in_err-reserve.ensures.err.2
+returns-in_err-reserve-clause-same c = λ slots. shows_same c.args.graph.now c.reserve.new.self slots c.in_err-reserve.ensures.err
 
 pub returns-in_err-gone-clause-same : goal.returns-in_err-gone-clause-same
 returns-in_err-gone-clause-same c = λ slots. shows_grown c.args.graph.now c.reserve.new.self _ slots c.in_ok-reserve.ensures.ok
@@ -79,8 +79,7 @@ pub returns-then-made-added-ge-MOST_MADE-clause-few : goal.returns-then-made-add
 returns-then-made-added-ge-MOST_MADE-clause-few c = omega arith
 
 pub returns-in_err-reserve-clause-few : goal.returns-in_err-reserve-clause-few
-returns-in_err-reserve-clause-few c =
-    less_few c.args.graph.now c.reserve.new.self _ (few_missing (goal.at.returns-in_err-reserve-clause-few c).After-missing_in-added) c.in_err-reserve.ensures.err
+returns-in_err-reserve-clause-few c = let same = ap length c.in_err-reserve.ensures.err in omega (arith, same)
 
 pub returns-in_err-gone-clause-few : goal.returns-in_err-gone-clause-few
 returns-in_err-gone-clause-few c =

@@ -4,11 +4,11 @@ use Rattle.slot_arena.proofs.arena.add_places.Given as goal
 
 abbrev pub invariant-loop-left : goal.invariant-loop-left
 invariant-loop-left l = record {
-  next : l.next.items ++ replicate l.left l.generation ≡ l.fn.next.items ++ replicate 64 l.generation;
-  free : l.free.items ++ down_to l.from l.left ≡ l.fn.free.items ++ down_to l.from 64;
+  next : l.next.items ++ replicate l.left 0 ≡ l.fn.next.items ++ replicate l.fn.count 0;
+  free : l.free.items ++ down_to l.from l.left ≡ l.fn.free.items ++ down_to l.from l.fn.count;
   next_room : vec_len l.next + l.left ≤ vec_capacity l.next;
   free_room : vec_len l.free + l.left ≤ vec_capacity l.free;
-  left : l.left ≤ 64;
+  left : l.left ≤ l.fn.count;
   capacity : vec_capacity l.free ≡ vec_capacity l.fn.free;
 }
 
