@@ -16,12 +16,12 @@ take_last-requires g c =
 pub free-requires : goal.free-requires
 free-requires g c =
     let v = c.loop-left.invariant in
-    (chunks-last c.take_last.new.chunks.items v.0 c.take_last.result c.loop-left.left c.loop-left-test.true (sym c.take_last.ensures.items ∙ v.2)).1
+    (chunks-last c.take_last.new.self.items v.0 c.take_last.result c.loop-left.left c.loop-left-test.true (sym c.take_last.ensures.items ∙ v.2)).1
 
 pub loop-left-preserved : goal.loop-left-preserved
 loop-left-preserved g c =
     let v = c.loop-left.invariant in
-    let last = chunks-last c.take_last.new.chunks.items v.0 c.take_last.result c.loop-left.left c.loop-left-test.true (sym c.take_last.ensures.items ∙ v.2) in
+    let last = chunks-last c.take_last.new.self.items v.0 c.take_last.result c.loop-left.left c.loop-left-test.true (sym c.take_last.ensures.items ∙ v.2) in
     (v.0, v.1, last.0)
 
 pub returns : goal.returns
