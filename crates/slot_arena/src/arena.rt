@@ -168,7 +168,8 @@ fn make_room(next: &mut Vec<u64>, free: &mut Vec<u32>, more: usize) -> Result<()
     requires fewer { vec_len free.old ≤ vec_len next.old }
     ensures same { (next.new.items ≡ next.old.items) × (free.new.items ≡ free.old.items) }
     ensures kept { vec_capacity free.old ≤ vec_capacity free.new }
-    ensures room { IfOk result (λ _. HasRoom (vec_len next.new + more) (vec_capacity next.new) (vec_capacity free.new)) }
+    ensures room { IfOk result (λ _. HasRoom (vec_len next.new + more)
+        (vec_capacity next.new) (vec_capacity free.new)) }
 {
     next.reserve(more)?;
     free.reserve(next.len() + more - free.len())

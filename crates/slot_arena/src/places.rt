@@ -1,6 +1,6 @@
 //! The places of all chunks, as one row.
-ghost use Rattle.std.specs.Prelude.{◌≡◌, ◌++◌, ◌*◌, ◌<◌, [], length, replicate, get_or, slice_set, is_some, OnOk, OnErr};
-ghost use Rattle.std.specs.Prelude.{Some, None};
+ghost use Rattle.std.specs.Prelude.{◌≡◌, ◌++◌, ◌*◌, ◌<◌, [], length, replicate, get_or, slice_set, is_some};
+ghost use Rattle.std.specs.Prelude.{OnOk, OnErr, Some, None};
 ghost use Rattle.std.specs.Borrow.{sem};
 ghost use Rattle.slot_arena.specs.Rows.{IsFilled, with_chunks, EndsEmpty};
 
