@@ -1,5 +1,5 @@
 -- Paths that a folder was asked for, and what is kept of it.
-use Rattle.std.proofs.Common.{◌≡◌, ℕ, true, false, List, [], ◌++◌, Option, Some, None, refl, sym, ap, ◌∙◌, append_assoc, append-nil, All, Contains}
+use Rattle.std.proofs.Common.{◌≡◌, ℕ, true, false, List, [], ◌∷◌, ◌++◌, Option, Some, None, refl, sym, ap, ◌∙◌, subst, append_assoc, append-nil, All, Contains}
 use Rattle.std.specs.Prelude.{bytes_eq, is_some}
 use Rattle.std.specs.Option.{option_or}
 use Rattle.std.proofs.Common.{⊎_elim}
@@ -7,11 +7,13 @@ use Rattle.std.proofs.lemmas.Bool.{cases_Bool}
 use Rattle.std.proofs.lemmas.List.Elements.{All-append, All-weaker, All-nil, All-contains, All-contains_itself}
 use Rattle.std.proofs.lemmas.Slice.Eq.{bytes_eq-Decides}
 use Rattle.tree_spec.proofs.FootprintSets.{distinct_none}
+use Rattle.tree_spec.proofs.Fronts.{all_front}
 use Rattle.tree_spec.specs.States.{FolderState}
 use Rattle.tree_spec.specs.declared.Look.{Look}
 use Rattle.package_lookup.specs.declared.known.Known.{Known}
 use Rattle.package_lookup.specs.Looked.{laid_at, kept_at, known_at}
 use Rattle.package_lookup.specs.Answered.{State, AsksOnce}
+use Rattle.package_lookup.proofs.ButLast.{but_last_none, but_last_then}
 use Rattle.package_lookup.proofs.PathSets.{Apart, distinct_append}
 use Rattle.edit_session.specs.NewLooks.{KeepsLooks, AsksNew}
 
@@ -47,6 +49,9 @@ asks_new_then list old mid new middle after some rest First Last Whole done keep
     join : AsksNew (list ++ one.more) mid after new rest Last → AsksNew list old after new rest Whole
     join two =
         let was : All (λ path. is_some (kept_at mid path) ≡ true) one.more = one.held done in
+        let still : All (λ path. is_some (kept_at new path) ≡ true) one.more =
+        All-weaker (λ path. is_some (kept_at mid path) ≡ true) (λ path. is_some (kept_at new path) ≡ true)
+        (λ path held. some_kept (kept_at mid path) (kept_at new path) (goes path) held) one.more was in
         record {
           more = one.more ++ two.more;
           asked = two.asked ∙ ap Some (append_assoc list one.more two.more);
@@ -57,10 +62,9 @@ asks_new_then list old mid new middle after some rest First Last Whole done keep
           new = All-append (λ path. kept_at old path ≡ None) one.more two.more one.new
               (All-weaker (λ path. kept_at mid path ≡ None) (λ path. kept_at old path ≡ None)
               (λ path none. none_kept (kept_at old path) (kept_at mid path) (keeps path) none) two.more two.new);
-          held = λ finished. All-append (λ path. is_some (kept_at new path) ≡ true) one.more two.more
-              (All-weaker (λ path. is_some (kept_at mid path) ≡ true) (λ path. is_some (kept_at new path) ≡ true)
-              (λ path held. some_kept (kept_at mid path) (kept_at new path) (goes path) held) one.more was)
+          held = λ finished. All-append (λ path. is_some (kept_at new path) ≡ true) one.more two.more still
               (two.held finished);
+          front = but_last_then (λ path. is_some (kept_at new path) ≡ true) one.more two.more still two.front;
           among = All-append Whole one.more two.more (All-weaker First Whole first one.more one.among)
               (All-weaker Last Whole last two.more two.among);
         }
@@ -73,6 +77,7 @@ asks_no_path list old new after unfinished Among same = record {
   once = distinct_none;
   new = All-nil (λ path. kept_at old path ≡ None);
   held = λ finished. All-nil (λ path. is_some (kept_at new path) ≡ true);
+  front = but_last_none (λ path. is_some (kept_at new path) ≡ true);
   among = All-nil Among;
 }
 
@@ -85,6 +90,7 @@ asks_as list old new after some other One Other weaker goes asks = record {
   once = asks.once;
   new = asks.new;
   held = λ finished. asks.held (λ e. finished (weaker e));
+  front = asks.front;
   among = All-weaker One Other goes asks.more asks.among;
 }
 
@@ -123,5 +129,9 @@ asks_once_new list before after some other One Other laid weaker goes asks = rec
   new = All-weaker (λ path. known_at before.known path ≡ None) (λ path. kept_at before.known path ≡ None)
       (λ path none. new_by (laid_at before.known path) (kept_at before.known path) none) asks.more asks.new;
   held = λ finished. both_by before.known after.known laid asks.more asks.new (asks.held (λ e. finished (weaker e)));
+  front = λ first last e. both_by before.known after.known laid first
+      (all_front (λ path. known_at before.known path ≡ None) first (last ∷ [])
+      (subst (λ (paths : List (List ℕ)). All (λ path. known_at before.known path ≡ None) paths) e asks.new))
+      (asks.front first last e);
   among = All-weaker One Other goes asks.more asks.among;
 }

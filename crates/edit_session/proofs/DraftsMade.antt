@@ -352,6 +352,7 @@ module _ (edit : List Change) (folder : FolderState) (known alike : Known) (over
             new = All-weaker (λ path. kept_at alike path ≡ None) (λ path. kept_at known path ≡ None)
                 (λ path none. sym (kept path) ∙ none) asks.more asks.new;
             held = asks.held;
+            front = asks.front;
             among = All-weaker
                 (λ path. (tree : Tree) → folder.holds ≡ Some tree → AsksAll edit now_is tree path)
                 (λ path. (tree : Tree) → folder.holds ≡ Some tree → AsksAll edit was tree path)

@@ -12,6 +12,7 @@ use Rattle.package_lookup.specs.Answered.{state, AsksOnce}
 use Rattle.package_lookup.specs.LaidTrees.{StandsBehind}
 use Rattle.package_lookup.specs.Learning.{Learns, IsSameIn}
 use Rattle.package_lookup.specs.Looked.{kept_at}
+use Rattle.package_lookup.proofs.ButLast.{but_last_weaker}
 use Rattle.package_lookup.proofs.Laying.{looks_keep_behind}
 use Rattle.edit_session.specs.LooksOn.{LooksOn}
 use Rattle.edit_session.specs.NewLooks.{AsksNew}
@@ -91,6 +92,8 @@ asks_same list one other some any after unfinished Among e f asks = record {
       (λ path none. sym (kept_same one other e path) ∙ none) asks.more asks.new;
   held = λ finished. All-weaker (λ path. is_some (kept_at some path) ≡ true) (λ path. is_some (kept_at any path) ≡ true)
       (λ path held. ap is_some (kept_same some any f path) ∙ held) asks.more (asks.held finished);
+  front = but_last_weaker (λ path. is_some (kept_at some path) ≡ true) (λ path. is_some (kept_at any path) ≡ true)
+      asks.more (λ path held. ap is_some (kept_same some any f path) ∙ held) asks.front;
   among = asks.among;
 }
 

@@ -98,6 +98,7 @@ module _ (right : Type 0) (config : Config) (before after : FolderState) (known 
           once = mine.once;
           new = mine.new;
           held = mine.held;
+          front = mine.front;
           among = all_contained IsOfRight mine.more
               (λ path held holds.
               let theirs = some_told

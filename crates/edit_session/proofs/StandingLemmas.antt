@@ -25,6 +25,7 @@ use Rattle.package_lookup.specs.LaidTrees.{IsLaid}
 use Rattle.package_lookup.specs.Learning.{Learns}
 use Rattle.package_lookup.specs.Looked.{known_at, over_at, look_or, look_in}
 use Rattle.package_lookup.specs.SeenLooks.{within_limit, seen_as}
+use Rattle.package_lookup.proofs.ButLast.{but_last_one}
 use Rattle.package_lookup.proofs.Laying.{laid_is_seen}
 use Rattle.package_lookup.proofs.Questions.{asks_nothing}
 use Rattle.edit_session.specs.Standings.{standing_at, standing_seen, standing_by, Stands}
@@ -61,6 +62,7 @@ asks_for list before after unfinished path more None known asked is holds = reco
   new = All-cons (λ p. known_at before.known p ≡ None) path [] known (All-nil (λ p. known_at before.known p ≡ None));
   held = λ finished. All-cons (λ p. is_some (known_at after.known p) ≡ true) path [] (holds finished)
       (All-nil (λ p. is_some (known_at after.known p) ≡ true));
+  front = but_last_one (λ p. is_some (known_at after.known p) ≡ true) path;
   among = All-cons (IsOne path) path [] refl (All-nil (IsOne path));
 }
 

@@ -11,6 +11,7 @@ use Rattle.std.specs.List.{IsDistinct}
 use Rattle.tree_spec.specs.States.{FolderState, OnlyLooks}
 use Rattle.tree_spec.specs.declared.Look.{Look}
 use Rattle.package_lookup.specs.declared.known.Known.{Known}
+use Rattle.package_lookup.specs.Answered.{AllButLast}
 use Rattle.package_lookup.specs.LaidTrees.{StandsBehind}
 use Rattle.package_lookup.specs.Looked.{kept_at}
 
@@ -18,7 +19,7 @@ abbrev pub KeepsLooks : Known → Known → Type 0
 KeepsLooks before after =
     (path : List ℕ) (look : Look) → kept_at before path ≡ Some look → kept_at after path ≡ Some look
 
--- own: unless memory was wanting, each of them is kept afterwards
+-- own: each of them is kept afterwards, the last one unless memory was wanting
 pub record AsksNew (old : List (List ℕ)) (before : Known) (after : FolderState) (later : Known) (unfinished : Type 0)
     (Among : List ℕ → Type 0) : Type 0 where
   pub more : List (List ℕ)
@@ -26,6 +27,7 @@ pub record AsksNew (old : List (List ℕ)) (before : Known) (after : FolderState
   pub once : IsDistinct bytes_eq more
   pub new : All (λ path. kept_at before path ≡ None) more
   pub held : (unfinished → ⊥) → All (λ path. is_some (kept_at later path) ≡ true) more
+  pub front : AllButLast (λ path. is_some (kept_at later path) ≡ true) more
   pub among : All Among more
 
 -- own: what is laid stays, what was kept is kept, a told tree stays behind it, and the folder is only looked at

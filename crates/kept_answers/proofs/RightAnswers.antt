@@ -31,6 +31,7 @@ module _ {X : Type 0} (before after : State) (asking : LookAsking X) (response :
     once = asks.once;
     new = asks.new;
     held = asks.held;
+    front = asks.front;
     among = all_contained (IsLookOf (untold_state before) asking) asks.more (λ path held. tt);
   }
 

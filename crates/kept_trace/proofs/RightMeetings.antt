@@ -69,6 +69,7 @@ module _ (right later : Type 0) (is_fresh later_fresh : Freshness) (keeping late
           once = mine.once;
           new = mine.new;
           held = mine.held;
+          front = mine.front;
           among = all_contained (IsAskedBy (answers_if right (first_of before)) asking) mine.more
               (λ path held told by.
               let theirs = told_so
@@ -158,6 +159,7 @@ module _ (right later : Type 0) (is_fresh later_fresh : Freshness) (keeping late
         once = asks.once;
         new = asks.new;
         held = asks.held;
+        front = asks.front;
         among = all_contained (IsOfFootprint config (untold before.folder) before.known) asks.more (λ path held. tt);
       }
 

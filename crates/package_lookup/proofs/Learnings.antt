@@ -85,6 +85,7 @@ learns_at before after first last unfinished Among learns = record {
         once = asks.once;
         new = asks.new;
         held = asks.held;
+        front = asks.front;
         among = asks.among;
       })
       learns.asked;

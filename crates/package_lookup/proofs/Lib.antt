@@ -1,6 +1,7 @@
 mod ReadingLemmas
 pub mod PathSets
 pub mod LookCounts
+pub mod ButLast
 mod SightAnswers
 mod Folders
 pub mod Reaching

@@ -41,6 +41,7 @@ use Rattle.package_lookup.specs.SeenLooks.{IsWithin}
 use Rattle.package_lookup.specs.Responses.{Failing, passes, not_read, no_memory, never, Response, given, fails, by_limit, by_fault, looked, bad_config, deep_config, resolved}
 use Rattle.package_lookup.specs.Answered.{State, state, Fails, Comes, Tells, IsLookOf, AsksOnce, Answered}
 use Rattle.package_lookup.specs.Trails.{Lengthens, IsReached}
+use Rattle.package_lookup.proofs.ButLast.{but_last_none, but_last_then, but_last_weaker}
 use Rattle.package_lookup.proofs.PathSets.{Apart, distinct_append}
 use Rattle.package_lookup.proofs.Reaching.{reached_as, reached_behind, reached_by_front, looks_passed}
 
@@ -133,6 +134,10 @@ asks_then old before middle after some rest First Last Whole done grew grows fir
     join : AsksOnce (old ++ one.more) middle after rest Last → AsksOnce old before after rest Whole
     join two =
         let was : All (λ path. is_some (known_at middle.known path) ≡ true) one.more = one.held done in
+        let still : All (λ path. is_some (known_at after.known path) ≡ true) one.more =
+        All-weaker (λ path. is_some (known_at middle.known path) ≡ true) (λ path. is_some (known_at after.known path) ≡ true)
+        (λ path held. held_by (known_at middle.known path) (known_at after.known path)
+        (known_grows middle.known after.known grows path) held) one.more was in
         record {
           more = one.more ++ two.more;
           asked = two.asked ∙ ap Some (append_assoc old one.more two.more);
@@ -144,11 +149,9 @@ asks_then old before middle after some rest First Last Whole done grew grows fir
               (All-weaker (λ path. known_at middle.known path ≡ None) (λ path. known_at before.known path ≡ None)
               (λ path none. none_by (known_at before.known path) (known_at middle.known path)
               (known_grows before.known middle.known grew path) none) two.more two.new);
-          held = λ finished. All-append (λ path. is_some (known_at after.known path) ≡ true) one.more two.more
-              (All-weaker (λ path. is_some (known_at middle.known path) ≡ true) (λ path. is_some (known_at after.known path) ≡ true)
-              (λ path held. held_by (known_at middle.known path) (known_at after.known path)
-              (known_grows middle.known after.known grows path) held) one.more was)
+          held = λ finished. All-append (λ path. is_some (known_at after.known path) ≡ true) one.more two.more still
               (two.held finished);
+          front = but_last_then (λ path. is_some (known_at after.known path) ≡ true) one.more two.more still two.front;
           among = All-append Whole one.more two.more (All-weaker First Whole first one.more one.among)
               (All-weaker Last Whole last two.more two.among);
         }
@@ -161,6 +164,7 @@ asks_nothing old before after unfinished Among same = record {
   once = distinct_none;
   new = All-nil (λ path. known_at before.known path ≡ None);
   held = λ finished. All-nil (λ path. is_some (known_at after.known path) ≡ true);
+  front = but_last_none (λ path. is_some (known_at after.known path) ≡ true);
   among = All-nil Among;
 }
 
@@ -179,6 +183,7 @@ asks_finished old before after some other One Other weaker goes one = record {
   once = one.once;
   new = one.new;
   held = λ finished. one.held (λ s. finished (weaker s));
+  front = one.front;
   among = All-weaker One Other goes one.more one.among;
 }
 
@@ -497,6 +502,9 @@ known_on before after known asking response same one = record {
         held = λ finished. All-weaker (λ path. is_some (known_at after.known path) ≡ true)
             (λ path. is_some (known_at known path) ≡ true)
             (λ path held. ap is_some (same_known_at after.known known same path) ∙ held) asks.more (asks.held finished);
+        front = but_last_weaker (λ path. is_some (known_at after.known path) ≡ true)
+            (λ path. is_some (known_at known path) ≡ true) asks.more
+            (λ path held. ap is_some (same_known_at after.known known same path) ∙ held) asks.front;
         among = asks.among;
       }) one.asked;
   folder = one.folder;

@@ -24,6 +24,7 @@ use Rattle.package_lookup.specs.Trails.{has_room, OnCount, Lengthens, IsReached}
 use Rattle.package_lookup.specs.Responses.{passes, not_read, no_memory, never, Response, given, fails, by_limit, by_fault}
 use Rattle.package_lookup.specs.Answered.{State, state, Comes, Tells, IsLookOf, IsCovered, AsksOnce, Answered}
 use Rattle.package_lookup.specs.Fetching.{unknown, IsAsked, Fetches}
+use Rattle.package_lookup.proofs.ButLast.{but_last_one}
 use Rattle.package_lookup.proofs.LookCounts.{counted_large, counted_many, counted_named, counted_alike, counted_paths, counted_within, small_within, stands_counted, large_seen}
 use Rattle.package_lookup.proofs.Reaching.{room_there, reached_now}
 use Rattle.package_lookup.proofs.Questions.{nothing, asks_nothing, covers_still, failed, lengthens_itself}
@@ -47,6 +48,7 @@ asks_by list before after unfinished Among path more None here known asked is he
   new = All-cons (λ p. known_at before.known p ≡ None) path [] known (All-nil (λ p. known_at before.known p ≡ None));
   held = λ finished. All-cons (λ p. is_some (known_at after.known p) ≡ true) path [] (held finished)
       (All-nil (λ p. is_some (known_at after.known p) ≡ true));
+  front = but_last_one (λ p. is_some (known_at after.known p) ≡ true) path;
   among = All-cons Among path [] here (All-nil Among);
 }
 

@@ -3,6 +3,7 @@
 --     Comes end response after              the evaluation of an asking ends as the call does
 --     IsLookOf before asking path           where a tree is told, the asking looks at the path, by all that looks tell,
 --                                           and a limit doesn't stop it before
+--     AllButLast P paths                    this holds of all paths but the last
 --     AsksOnce old before after unfinished Among
 --                                           the folder was asked for no path that was known, for none twice, and for
 --                                           those alone of which this holds
@@ -59,8 +60,12 @@ IsLookOf before asking path =
     (λ tree. (sights : Sights) → Sees tree before.known sights
     → IsReached look_limits sights before.trail (looks sights asking) path)
 
+-- own: of all that stand before the last one
+abbrev pub AllButLast : (List ℕ → Type 0) → List (List ℕ) → Type 0
+AllButLast P paths = (front : List (List ℕ)) (last : List ℕ) → paths ≡ front ++ last ∷ [] → All P front
+
 -- where the folder tells what it was asked for: further paths, none of them known before, none of them twice, each of
--- them known afterwards, unless memory was wanting, and no others than those that were to be looked at
+-- them known afterwards (the last one unless memory was wanting), and no others than those that were to be looked at
 pub record AsksOnce (old : List (List ℕ)) (before after : State) (unfinished : Type 0)
     (Among : List ℕ → Type 0) : Type 0 where
   pub more : List (List ℕ)
@@ -68,6 +73,7 @@ pub record AsksOnce (old : List (List ℕ)) (before after : State) (unfinished :
   pub once : IsDistinct bytes_eq more
   pub new : All (λ path. known_at before.known path ≡ None) more
   pub held : (unfinished → ⊥) → All (λ path. is_some (known_at after.known path) ≡ true) more
+  pub front : AllButLast (λ path. is_some (known_at after.known path) ≡ true) more
   pub among : All Among more
 
 abbrev pub IsCovered : State → Type 0

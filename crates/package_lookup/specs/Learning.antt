@@ -11,7 +11,7 @@ use Rattle.package_lookup.specs.Answered.{State, AsksOnce}
 abbrev pub IsSameIn : Tree → State → State → Type 0
 IsSameIn tree before after = (path : List ℕ) → look_in tree after.known path ≡ look_in tree before.known path
 
--- unless memory was wanting, each path that the folder was asked for is known afterwards
+-- each path that the folder was asked for is known afterwards, the last one unless memory was wanting
 pub record Learns (before after : State) (unfinished : Type 0) (Among : List ℕ → Type 0) : Type 0 where
   pub tree : after.folder.holds ≡ before.folder.holds
   pub same : IfSome before.folder.holds (λ tree. IsSameIn tree before after)
