@@ -42,11 +42,7 @@ pub(crate) fn map_again<F: Folder, L: Ledger>(
 {
     match answers.trace(alloc, folder, known, config, steps) {
         Err(fault) => Err(stop_of(fault)),
-        Ok(trace) => {
-            let made = map_with_plan(alloc, config, &trace, shown);
-            drop(trace);
-            made
-        }
+        Ok(trace) => map_with_plan(alloc, config, &trace, shown),
     }
 }
 

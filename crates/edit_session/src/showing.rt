@@ -66,9 +66,9 @@ impl Showing {
         // What is known of a trace is known where it is looked at.
         let _view = trace.view();
         let _count = trace.len();
-        drop(self.plan.take());
+        self.plan = None;
         let plan = self.graph.plan(alloc, trace.graph())?;
-        drop(self.plan.replace(plan));
+        self.plan = Some(plan);
         Ok(())
     }
 
