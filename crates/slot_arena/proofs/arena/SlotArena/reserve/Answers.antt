@@ -21,7 +21,7 @@ pub make_room-requires-clause-small : goal.make_room-requires-clause-small
 make_room-requires-clause-small g c =
     let vs = c.self.inside.places in let ns = c.self.inside.next.items in let long = c.self.invariant.0 in
     let fits = wanted_fits c.len-spare.result c.args.n (length ns) (c.chunks_wanted-chunks.result * 64) c.chunks_wanted-chunks.ensures
-        (omega (arith, c.requires, ap length c.self.view_is, length-paired vs ns long, long)) in
+    (omega (arith, c.requires, ap length c.self.view_is, length-paired vs ns long, long)) in
     omega (arith, fits, c.self.inside.next.ok.0)
 
 pub make_room-requires-clause-fewer : goal.make_room-requires-clause-fewer
@@ -47,7 +47,7 @@ pub add_places-requires-clause-small : goal.add_places-requires-clause-small
 add_places-requires-clause-small g c =
     let vs = c.self.inside.places in let ns = c.self.inside.next.items in let long = c.self.invariant.0 in
     let fits = wanted_fits c.len-spare.result c.args.n (length ns) (c.chunks_wanted-chunks.result * 64) c.chunks_wanted-chunks.ensures
-        (omega (arith, c.requires, ap length c.self.view_is, length-paired vs ns long, long)) in
+    (omega (arith, c.requires, ap length c.self.view_is, length-paired vs ns long, long)) in
     omega (arith, fits, c.len-made.ensures, c.self.inside.next.ok.0)
 
 pub invariant_of-self-2 : goal.invariant_of-self-2
@@ -59,7 +59,7 @@ invariant_of-self-2 g c =
     let frees : c.add_places.new.free.items ≡ free ++ down_to (length ns) more = c.add_places.ensures.free ∙ (λ j. m.same.1 j ++ down_to (made j) more) in
     let fits : length ns + more ≤ vec_capacity c.make_room.new.free = omega (arith, m.room.free, ap length m.same.0, c.make_room.new.next.ok.0) in
     let small : length ns + more < 2 ^ 32 = wanted_fits c.len-spare.result c.args.n (length ns) more c.chunks_wanted-chunks.ensures
-        (omega (arith, c.requires, ap length c.self.view_is, length-paired vs ns long, long)) in
+    (omega (arith, c.requires, ap length c.self.view_is, length-paired vs ns long, long)) in
     rw c.in_ok-grow.ensures.ok (rw next (rw frees (rw c.add_places.ensures.capacity (
       long_too vs ns more long,
       fields-grown vs ns long free more 0 (vec_capacity c.make_room.new.free) (omega arith) fits small k,
