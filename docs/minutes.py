@@ -2,8 +2,9 @@
 """Processor minutes of the gate, by crate.
 
 `docs/minutes.py run FILE [WORDS..]` runs `rt ci WORDS..` at the top of the repository in the current folder, looks twice a second at
-what processes it has and how much processor time each took, and writes what it saw to FILE. `docs/minutes.py table FILE [BEFORE]`
-prints a table of FILE, with what an earlier run took beside it.
+what processes it has and how much processor time each took, and writes what it saw to FILE, each half minute and at the end.
+`docs/minutes.py table FILE [BEFORE]` prints a table of FILE, with what an earlier run took beside it; crates that took less than a
+minute in each run are its line `others`.
 
 Proofs: the building of libraries and programs. Tests: the building of `#[test]` functions. Edits: what must-fail edits took, with
 the checks that they begin with. Runs: programs and tests that were run. What a process took after the last look at it is missing;
@@ -69,28 +70,20 @@ def classify(pid, above):
     return (ran[1], 'runs') if ran else None
 
 
-def sample(runner):
-    """what each process of the run took, until it ends; and the exact whole"""
-    seen, whole = {}, 0
-    while runner.poll() is None:
-        found = processes()
-        if runner.pid in found:
-            whole = sum(found[runner.pid][2:])
-        for pid in below(runner.pid, found):
-            parent, born, own, _ = found[pid]
-            above = next((it['of'] for key, it in seen.items() if key[0] == parent and it['of']), None)
-            kept = seen.setdefault((pid, born), {'of': classify(pid, above), 'own': 0})
-            kept['of'] = kept['of'] or classify(pid, above)
-            kept['own'] = own
-        time.sleep(0.5)
-    return seen, whole
+def look(runner, seen):
+    """looks once at each process of the run; the whole as the system counts it, or nothing where the run has ended"""
+    found = processes()
+    for pid in below(runner.pid, found):
+        parent, born, own, _ = found[pid]
+        above = next((it['of'] for key, it in seen.items() if key[0] == parent and it['of']), None)
+        kept = seen.setdefault((pid, born), {'of': classify(pid, above), 'own': 0})
+        kept['of'] = kept['of'] or classify(pid, above)
+        kept['own'] = own
+    return sum(found[runner.pid][2:]) if runner.pid in found else 0
 
 
-def run(file, words):
-    """runs the gate and writes the seconds by crate and kind"""
-    began = time.monotonic()
-    with subprocess.Popen(['rt', 'ci', *words]) as runner:
-        seen, whole = sample(runner)
+def write(file, seen, whole, clock, status):
+    """writes the seconds by crate and kind; the status is nothing until the run ends"""
     rows, other = {}, 0
     for it in seen.values():
         if it['of']:
@@ -99,9 +92,23 @@ def run(file, words):
             row[kind] += it['own']
         else:
             other += it['own']
-    told = {'clock': time.monotonic() - began, 'whole': whole, 'other': other, 'rows': rows, 'status': runner.returncode}
+    told = {'clock': clock, 'whole': whole, 'other': other, 'rows': rows, 'status': status}
     with open(file, 'w', encoding='utf8') as out:
         json.dump(told, out, indent=1, sort_keys=True)
+
+
+def run(file, words):
+    """runs the gate, and writes what it took so far each half minute"""
+    began, seen, whole, due = time.monotonic(), {}, 0, 30
+    with subprocess.Popen(['rt', 'ci', *words]) as runner:
+        while runner.poll() is None:
+            whole = max(whole, look(runner, seen))
+            clock = time.monotonic() - began
+            if clock >= due:
+                write(file, seen, whole, clock, None)
+                due = clock + 30
+            time.sleep(0.5)
+    write(file, seen, whole, time.monotonic() - began, runner.returncode)
     return runner.returncode
 
 
@@ -111,9 +118,15 @@ def minutes(row, kind):
     return f'{seconds / 60:.1f}' if seconds >= 3 else ''
 
 
-def sums(told):
-    """the seconds of each kind, over all crates"""
-    return {kind: sum(row[kind] for row in told['rows'].values()) for kind in KINDS}
+def gathered(runs, names):
+    """what these crates took together, in each run"""
+    return [{kind: sum(rows[name][kind] for name in names if name in rows) for kind in KINDS} for rows in runs]
+
+
+def tell(name, told):
+    """prints the whole of a run"""
+    end = '' if told['status'] == 0 else ', and had not passed then'
+    print(f'\n{name}: {told["whole"] / 60:.0f} processor minutes as the system counts them, {told["clock"] / 60:.0f} by the clock{end}.')
 
 
 def table(file, before):
@@ -123,13 +136,13 @@ def table(file, before):
     print('|'.join(['Crate', *heads]) + '\n' + '|'.join(['---'] * (1 + len(heads))))
     taken = [it['rows'] for it in told]
     took = {name: sum(sum(rows[name].values()) for rows in taken if name in rows) for rows in taken for name in rows}
-    lines = [(f'`{name}`', [rows.get(name) for rows in taken]) for name in sorted(took, key=took.get, reverse=True)]
-    for name, rows in [*lines, ('together', [sums(it) for it in told])]:
+    names = sorted(took, key=took.get, reverse=True)
+    small = [name for name in names if all(sum(rows[name].values()) < 60 for rows in taken if name in rows)]
+    lines = [(f'`{name}`', [rows.get(name) for rows in taken]) for name in names if name not in small]
+    for name, rows in [*lines, ('others', gathered(taken, small)), ('together', gathered(taken, names))]:
         print('|'.join([name, *(minutes(row, kind) for kind in KINDS for row in rows)]))
     for name, it in zip(('Before', 'After') if before else ('Here',), told):
-        print(f'\n{name}: {it["whole"] / 60:.0f} processor minutes as the system counts them, {it["clock"] / 60:.0f} by the clock.')
-    if before:
-        print('\nOf before: ' + ', '.join(f'{told[1][of] / told[0][of]:.2f} {of}' for of in ('whole', 'clock')))
+        tell(name, it)
 
 
 def main(words):
